@@ -1,0 +1,81 @@
+-- The public calls, each with what it answers and leaves. 'Every call below first gives 1 to 11.'
+use Prim.Native.Nat.{ℕ}
+use mathlib.Core.Path.{_≡_}
+use mathlib.Core.Bool.{Bool, true, false, cond}
+use mathlib.Core.List.{List, [], _∷_}
+use lib.ListN.{length}
+use lib.Dec.{eqb}
+use Rattle.definitions.specs.Arena.{Arena}
+use Rattle.definitions.specs.Check.{verdict, Names}
+use Rattle.definitions.specs.Reply.{Reply, reply, refusal}
+use Rattle.definitions.specs.Read.{Pointer, getLink, getLinkNoGen, areNeighbors}
+use Rattle.definitions.specs.Walk.{walkStart, walkStep}
+use Rattle.definitions.specs.Edit.{connect, breakPrev, breakNext, exchangeNext, setGeneration, incGeneration}
+use Rattle.definitions.specs.Remove.{remove, drain, canonicalizeFreelist}
+use Rattle.definitions.specs.Run.{run}
+use Rattle.definitions.specs.Compress.{compressWith, compressCanonical}
+
+-- a call with its arguments. What is handed in to be handed back, the lent slice that a call may write or the state of a walk, stands beside it
+pub data Call : Type 0 where
+  Check : Call
+  GetLink : Pointer → Call
+  GetLinkNoGen : Pointer → Call
+  AreNeighbors : Pointer → Pointer → Call
+  WalkStart : Pointer → Call
+  WalkStep : Call
+  Connect : Pointer → Pointer → Call
+  BreakPrev : Pointer → Call
+  BreakNext : Pointer → Call
+  ExchangeNext : Pointer → Pointer → Call
+  Remove : Pointer → Call
+  Drain : Pointer → Call
+  SetGeneration : ℕ → Call
+  IncGeneration : Call
+  CanonicalizeFreelist : Call
+  Run : List ℕ → Call
+  CompressWith : Bool → Call
+  CompressCanonical : Bool → Call
+
+-- on an arena that passed the check; l is what is handed in
+unfoldable pub accepted : ℕ → Call → Arena → List ℕ → Reply
+accepted top Check a l = reply 0 [] a l
+accepted top (GetLink p) a l = getLink a p l
+accepted top (GetLinkNoGen p) a l = getLinkNoGen a p l
+accepted top (AreNeighbors p q) a l = areNeighbors a p q l
+accepted top (WalkStart p) a l = walkStart a p l
+accepted top WalkStep a l = walkStep a l
+accepted top (Connect p q) a l = connect a p q l
+accepted top (BreakPrev p) a l = breakPrev a p l
+accepted top (BreakNext p) a l = breakNext a p l
+accepted top (ExchangeNext p q) a l = exchangeNext a p q l
+accepted top (Remove p) a l = remove top a p l
+accepted top (Drain p) a l = drain top a p l
+accepted top (SetGeneration g) a l = setGeneration a g l
+accepted top IncGeneration a l = incGeneration top a l
+accepted top CanonicalizeFreelist a l = canonicalizeFreelist a l
+accepted top (Run commands) a l = run top a commands l
+accepted top (CompressWith reset) a l = compressWith top reset a l
+accepted top (CompressCanonical reset) a l = compressCanonical top reset a l
+
+-- 'Every call below first gives 1 to 11.' A refusal changes nothing, and its further fields are 0. limit is the capacity limit, top the largest
+-- generation
+unfoldable pub replyTo : ℕ → ℕ → Call → Arena → List ℕ → Reply
+replyTo limit top c a l = cond (eqb (verdict limit a) 0) (accepted top c a l) (refusal (verdict limit a) (length (accepted top c a l .fields)) a l)
+
+-- what a public call promises: the reply is the definition's, and only the slot that 11 names is left to the program
+pub record Answers (limit top : ℕ) (c : Call) (a : Arena) (l : List ℕ) (broken : ℕ) (r : Reply) : Type 0 where
+  pub same : r ≡ replyTo limit top c a l
+  pub names : Names limit a broken
+
+-- a list of calls, each with what is handed in, on what the last one left: their replies, and the arena after them
+pub record Made : Type 0 where
+  pub call : Call
+  pub hands : List ℕ
+
+unfoldable pub repliesTo : ℕ → ℕ → List Made → Arena → List Reply
+repliesTo limit top [] a = []
+repliesTo limit top (m ∷ ms) a = let r = replyTo limit top (m .call) a (m .hands) in r ∷ repliesTo limit top ms (r .arena)
+
+unfoldable pub arenaAfter : ℕ → ℕ → List Made → Arena → Arena
+arenaAfter limit top [] a = a
+arenaAfter limit top (m ∷ ms) a = arenaAfter limit top ms (replyTo limit top (m .call) a (m .hands) .arena)

@@ -1,0 +1,88 @@
+-- The marked cases K1 to K12 as one table over the definitions: an arena, a list of calls, their answers and the arena left.
+use Prim.Native.Nat.{ℕ}
+use mathlib.Core.Path.{_≡_, refl}
+use mathlib.Core.Bool.{Bool, true, false}
+use mathlib.Core.List.{List, [], _∷_, _++_, map}
+use Rattle.definitions.specs.Arena.{Arena, arena, capacityLimit, largestGeneration, allocated, linkSlots, freeSlots}
+use Rattle.definitions.specs.Reply.{Reply}
+use Rattle.definitions.specs.Read.{pointer, stale, getLink, getLinkNoGen, neighbors, areNeighbors}
+use Rattle.definitions.specs.Walk.{walk, walkStart, onward, step, walkStep, walked}
+use Rattle.definitions.specs.Calls.{Call, Made, Check, WalkStart, WalkStep, Connect, ExchangeNext, Remove, Drain, CompressCanonical, repliesTo, arenaAfter, accepted, replyTo}
+use Rattle.definitions.specs.Columns.{at, put, firstOr, lastOr, slotsFrom, keep, written, settled}
+use Rattle.definitions.specs.Check.{misshapen, freelistWalk, namesBack, neighboursFine, allFine, countsOf, verdict}
+use Rattle.definitions.specs.Edit.{connect, breakPrev, breakNext, exchangeNext, nextGeneration, overflows, setGeneration, incGeneration}
+use Rattle.definitions.specs.Remove.{joined, vacated, removed, remove, removedAll, drainItems, overflowItem, drain, threaded, canonicalizeFreelist}
+use Rattle.definitions.specs.Run.{apply, applied, answersOf, run}
+use Rattle.definitions.specs.Compress.{raises, compressGeneration, compressNumber, place, relocate, movesOf, compressWith, exchanged, exchangeWords, exchangeLinks, exchangeSlots, putAtI, lowestFrom, startOf, layChain, layChains, laidOut, canonicalArena, compressCanonical}
+
+pub record Row : Type 0 where
+  pub start : Arena
+  pub calls : List Made
+  pub answers : List (List ℕ)
+  pub left : Arena
+
+pub record Answer : Type 0 where
+  pub answers : List (List ℕ)
+  pub left : Arena
+
+-- number, further fields, and the words of the lent slice
+abbrev pub words : Reply → List ℕ
+words r = r .number ∷ r .fields ++ r .back
+
+-- what the definitions answer and leave, with the port's limits
+abbrev pub computed : Row → Answer
+computed row = record { answers = map words (repliesTo capacityLimit largestGeneration (row .calls) (row .start)); left = arenaAfter capacityLimit largestGeneration (row .calls) (row .start) }
+
+abbrev pub expected : Row → Answer
+expected row = record { answers = row .answers; left = row .left }
+
+-- a call that hands in a slice or a walk's state, and one that hands in nothing
+abbrev with : Call → List ℕ → Made
+with c l = record { call = c; hands = l }
+
+abbrev plain : Call → Made
+plain c = with c []
+
+abbrev row : Arena → List Made → List (List ℕ) → Arena → Row
+row start calls answers left = record { start = start; calls = calls; answers = answers; left = left }
+
+-- 'all links generation 5, current 5'
+abbrev three : Arena
+three = arena (0 ∷ 1 ∷ 2 ∷ []) (2 ∷ 3 ∷ 0 ∷ []) (5 ∷ 5 ∷ 5 ∷ []) (11 ∷ 12 ∷ 13 ∷ []) (3 ∷ 3 ∷ 0 ∷ 5 ∷ [])
+
+abbrev closedPair : Arena
+closedPair = arena (2 ∷ 1 ∷ []) (2 ∷ 1 ∷ []) (5 ∷ 5 ∷ []) (11 ∷ 12 ∷ []) (2 ∷ 2 ∷ 0 ∷ 5 ∷ [])
+
+-- the table
+unfoldable pub rows : List Row
+rows =
+    -- K1 capacity 0: accepted; canonical without reset leaves generation 5
+    row (arena [] [] [] [] (0 ∷ 0 ∷ 0 ∷ 5 ∷ [])) (plain Check ∷ with (CompressCanonical false) [] ∷ []) ((0 ∷ []) ∷ (0 ∷ []) ∷ []) (arena [] [] [] [] (0 ∷ 0 ∷ 0 ∷ 5 ∷ [])) ∷
+    -- K2 lone 1, connect 1 to 1: prev and next 1
+    row (arena (0 ∷ []) (0 ∷ []) (5 ∷ []) (11 ∷ []) (1 ∷ 1 ∷ 0 ∷ 5 ∷ [])) (plain (Connect (pointer 1 5) (pointer 1 5)) ∷ []) ((0 ∷ []) ∷ []) (arena (1 ∷ []) (1 ∷ []) (5 ∷ []) (11 ∷ []) (1 ∷ 1 ∷ 0 ∷ 5 ∷ [])) ∷
+    -- K3 chain 1→2, connect 2 to 2: 13
+    row (arena (0 ∷ 1 ∷ []) (2 ∷ 0 ∷ []) (5 ∷ 5 ∷ []) (11 ∷ 12 ∷ []) (2 ∷ 2 ∷ 0 ∷ 5 ∷ [])) (plain (Connect (pointer 2 5) (pointer 2 5)) ∷ []) ((13 ∷ []) ∷ []) (arena (0 ∷ 1 ∷ []) (2 ∷ 0 ∷ []) (5 ∷ 5 ∷ []) (11 ∷ 12 ∷ []) (2 ∷ 2 ∷ 0 ∷ 5 ∷ [])) ∷
+    -- K4 1→2→3, exchange 1 and 2: 1→3, and 2 closed alone
+    row three (plain (ExchangeNext (pointer 1 5) (pointer 2 5)) ∷ []) ((0 ∷ []) ∷ []) (arena (0 ∷ 2 ∷ 1 ∷ []) (3 ∷ 2 ∷ 0 ∷ []) (5 ∷ 5 ∷ 5 ∷ []) (11 ∷ 12 ∷ 13 ∷ []) (3 ∷ 3 ∷ 0 ∷ 5 ∷ [])) ∷
+    -- K5 exchange 1 with 1 there: unchanged
+    row three (plain (ExchangeNext (pointer 1 5) (pointer 1 5)) ∷ []) ((0 ∷ []) ∷ []) three ∷
+    -- K6 remove 3 of three: stack 2, no root
+    row three (plain (Remove (pointer 3 5)) ∷ []) ((0 ∷ 2 ∷ 0 ∷ 13 ∷ []) ∷ []) (arena (0 ∷ 1 ∷ 0 ∷ []) (2 ∷ 0 ∷ 0 ∷ []) (5 ∷ 5 ∷ 0 ∷ []) (11 ∷ 12 ∷ 0 ∷ []) (2 ∷ 2 ∷ 0 ∷ 6 ∷ [])) ∷
+    -- K7 remove 1, then 2 of three: root 2, pointing at 1, which points at itself
+    row three (plain (Remove (pointer 1 5)) ∷ plain (Remove (pointer 2 5)) ∷ []) ((0 ∷ 0 ∷ 2 ∷ 11 ∷ []) ∷ (0 ∷ 0 ∷ 3 ∷ 12 ∷ []) ∷ []) (arena (0 ∷ 0 ∷ 0 ∷ []) (1 ∷ 1 ∷ 0 ∷ []) (0 ∷ 0 ∷ 5 ∷ []) (0 ∷ 0 ∷ 13 ∷ []) (3 ∷ 1 ∷ 2 ∷ 7 ∷ [])) ∷
+    -- K8 closed 1→2→1, remove 1: 2 closed alone
+    row closedPair (plain (Remove (pointer 1 5)) ∷ []) ((0 ∷ 2 ∷ 2 ∷ 11 ∷ []) ∷ []) (arena (0 ∷ 2 ∷ []) (1 ∷ 2 ∷ []) (0 ∷ 5 ∷ []) (0 ∷ 12 ∷ []) (2 ∷ 1 ∷ 1 ∷ 6 ∷ [])) ∷
+    -- K9 1→2→3, drain from 2: items 2 (1,3), 3 (1,0), 1 (0,0); stack 2, root 1→2→2; generation 8
+    row three (with (Drain (pointer 2 5)) (9 ∷ 9 ∷ 9 ∷ 9 ∷ 9 ∷ 9 ∷ 9 ∷ 9 ∷ 9 ∷ 9 ∷ 9 ∷ 9 ∷ 9 ∷ 9 ∷ 9 ∷ 9 ∷ []) ∷ []) ((0 ∷ 3 ∷ 0 ∷ 2 ∷ 5 ∷ 1 ∷ 3 ∷ 12 ∷ 3 ∷ 5 ∷ 1 ∷ 0 ∷ 13 ∷ 1 ∷ 5 ∷ 0 ∷ 0 ∷ 11 ∷ 9 ∷ []) ∷ []) (arena (0 ∷ 0 ∷ 0 ∷ []) (2 ∷ 2 ∷ 0 ∷ []) (0 ∷ 0 ∷ 0 ∷ []) (0 ∷ 0 ∷ 0 ∷ []) (2 ∷ 0 ∷ 1 ∷ 8 ∷ [])) ∷
+    -- K10 closed 1→2→1, walk from 2: 2, 1, none
+    row closedPair (plain (WalkStart (pointer 2 5)) ∷ with WalkStep (2 ∷ 2 ∷ 0 ∷ 2 ∷ []) ∷ with WalkStep (2 ∷ 1 ∷ 0 ∷ 1 ∷ []) ∷ with WalkStep (2 ∷ 0 ∷ 0 ∷ 0 ∷ []) ∷ []) ((0 ∷ 2 ∷ 2 ∷ 0 ∷ 2 ∷ []) ∷ (0 ∷ 2 ∷ 5 ∷ 2 ∷ 1 ∷ 0 ∷ 1 ∷ []) ∷ (0 ∷ 1 ∷ 5 ∷ 2 ∷ 0 ∷ 0 ∷ 0 ∷ []) ∷ (0 ∷ 0 ∷ 0 ∷ 2 ∷ 0 ∷ 0 ∷ 0 ∷ []) ∷ []) closedPair ∷
+    -- K11 1→5 and lone 2, 3, 4: where-from 1,5,3,4,2
+    row (arena (0 ∷ 0 ∷ 0 ∷ 0 ∷ 1 ∷ []) (5 ∷ 0 ∷ 0 ∷ 0 ∷ 0 ∷ []) (5 ∷ 5 ∷ 5 ∷ 5 ∷ 5 ∷ []) (11 ∷ 12 ∷ 13 ∷ 14 ∷ 15 ∷ []) (5 ∷ 5 ∷ 0 ∷ 5 ∷ [])) (with (CompressCanonical false) (9 ∷ 9 ∷ 9 ∷ 9 ∷ 9 ∷ []) ∷ []) ((0 ∷ 1 ∷ 5 ∷ 3 ∷ 4 ∷ 2 ∷ []) ∷ []) (arena (0 ∷ 1 ∷ 0 ∷ 0 ∷ 0 ∷ []) (2 ∷ 0 ∷ 0 ∷ 0 ∷ 0 ∷ []) (6 ∷ 6 ∷ 6 ∷ 6 ∷ 6 ∷ []) (11 ∷ 15 ∷ 13 ∷ 14 ∷ 12 ∷ []) (5 ∷ 5 ∷ 0 ∷ 6 ∷ [])) ∷
+    -- K12 two free slots pointing at each other, root 1, no links: 9
+    row (arena (0 ∷ 0 ∷ []) (2 ∷ 1 ∷ []) (0 ∷ 0 ∷ []) (0 ∷ 0 ∷ []) (2 ∷ 0 ∷ 1 ∷ 5 ∷ [])) (plain Check ∷ []) ((9 ∷ []) ∷ []) (arena (0 ∷ 0 ∷ []) (2 ∷ 1 ∷ []) (0 ∷ 0 ∷ []) (0 ∷ 0 ∷ []) (2 ∷ 0 ∷ 1 ∷ 5 ∷ [])) ∷
+    []
+
+-- every row holds: what the definitions compute is what is expected
+pub marked-cases : map computed rows ≡ map expected rows
+unfolding rows at put firstOr lastOr slotsFrom keep written settled allocated linkSlots freeSlots misshapen freelistWalk namesBack neighboursFine allFine countsOf verdict stale getLink getLinkNoGen neighbors areNeighbors walkStart onward step walkStep walked connect breakPrev breakNext exchangeNext nextGeneration overflows setGeneration incGeneration joined vacated removed remove removedAll drainItems overflowItem drain threaded canonicalizeFreelist apply applied answersOf run raises compressGeneration compressNumber place relocate movesOf compressWith exchanged exchangeWords exchangeLinks exchangeSlots putAtI lowestFrom startOf layChain layChains laidOut canonicalArena compressCanonical accepted replyTo repliesTo arenaAfter
+marked-cases = refl

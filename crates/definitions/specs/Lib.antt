@@ -1,0 +1,14 @@
+pub mod Columns
+pub mod Arena
+pub mod Chains
+pub mod Check
+pub mod Reply
+pub mod Read
+pub mod Walk
+pub mod Edit
+pub mod Remove
+pub mod Run
+pub mod Compress
+pub mod Calls
+pub mod Demand3
+pub mod Cases
