@@ -1,3 +1,5 @@
 pub mod Tests
 pub mod Columns
 pub mod Slots
+pub mod Count
+pub mod Linked
