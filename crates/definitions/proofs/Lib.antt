@@ -3,3 +3,5 @@ pub mod Columns
 pub mod Slots
 pub mod Count
 pub mod Linked
+pub mod Shaped
+pub mod Interlinks
