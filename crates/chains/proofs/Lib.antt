@@ -1,0 +1,4 @@
+pub mod Runs
+pub mod Links
+pub mod OneChain
+pub mod Find
