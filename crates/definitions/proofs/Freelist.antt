@@ -4,13 +4,13 @@
 use Prim.Native.Nat.{ℕ, zero, suc, _+_, _≤_, _<_}
 use mathlib.Core.Path.{_≡_, refl, sym, ap, _∙_}
 use mathlib.Core.Logic.{_⊎_, inl, inr}
-use mathlib.Core.Bool.{Bool, true, false, cond, not}
+use mathlib.Core.Bool.{cond}
 use mathlib.Core.List.{List, [], _∷_, _++_}
 use native.Mathlib.Omega.{arith}
 use native.Mathlib.Decide.{decLe}
 use lib.ListN.{length, length-append}
 use lib.Dec.{eqb, ltb}
-use borrow.Author.Tests.{eqb-true, eqb-false, ltb-false, eq-eqb, ne-eqb, le-ltb, not-false}
+use borrow.Author.Tests.{eqb-true, eqb-false, ltb-false, not-false}
 use Rattle.definitions.specs.Columns.{at, count, firstOr, lastOr}
 use Rattle.definitions.specs.Arena.{Arena, stackLength, linkCount, root, linkSlots, freeSlots}
 use Rattle.definitions.specs.Chains.{Linked}

@@ -1,11 +1,10 @@
 -- Laws of `Linked`, lists of slots in which each next names the following member. Assumes nothing.
-use Prim.Native.Nat.{ℕ, zero, suc, _+_, _≤_, _<_}
+use Prim.Native.Nat.{ℕ}
 use mathlib.Core.Path.{_≡_, refl, sym, ap, _∙_}
 use mathlib.Core.Logic.{_⊎_, inl, inr}
-use mathlib.Core.List.{List, [], _∷_, _++_, cons≢nil}
+use mathlib.Core.List.{List, [], _∷_, _++_}
 use native.Mathlib.Omega.{arith}
 use native.Mathlib.Decide.{ℕ-discrete}
-use lib.ListN.{length}
 use Rattle.definitions.specs.Columns.{count, firstOr, lastOr}
 use Rattle.definitions.specs.Chains.{Linked}
 use Rattle.definitions.proofs.Count.{In, in-here, in-there, in-cases, not-in-nil, count-first, count-grows}
