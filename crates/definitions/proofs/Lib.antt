@@ -1,6 +1,7 @@
 pub mod Tests
 pub mod Columns
 pub mod Slots
+pub mod Pointers
 pub mod Count
 pub mod Linked
 pub mod Freelist
