@@ -6,3 +6,4 @@ pub mod Count
 pub mod Linked
 pub mod Shaped
 pub mod Interlinks
+pub mod LinkCount

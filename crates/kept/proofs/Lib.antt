@@ -1,3 +1,6 @@
 pub mod RefusalChangesNothing
 pub mod Neighbours
 pub mod Edits
+pub mod Header
+pub mod Removal
+pub mod Runs
