@@ -4,6 +4,7 @@ pub mod Slots
 pub mod Pointers
 pub mod Count
 pub mod Linked
+pub mod Freelist
 pub mod Shaped
 pub mod Interlinks
 pub mod LinkCount
