@@ -8,3 +8,4 @@ pub mod Freelist
 pub mod Shaped
 pub mod Interlinks
 pub mod LinkCount
+pub mod Parts
