@@ -9,3 +9,4 @@ pub mod Shaped
 pub mod Interlinks
 pub mod LinkCount
 pub mod Parts
+pub mod Relisted

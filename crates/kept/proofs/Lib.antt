@@ -4,3 +4,5 @@ pub mod Edits
 pub mod Header
 pub mod Removal
 pub mod Runs
+pub mod CanonicalFreelist
+pub mod Drain

@@ -11,7 +11,7 @@ use lib.ListN.{length}
 use lib.Dec.{eqb}
 use borrow.Author.Tests.{eqb-true, eqb-false, eq-eqb, ne-eqb}
 use Rattle.definitions.specs.Columns.{at, put, count, firstOr, lastOr}
-use Rattle.definitions.specs.Arena.{Arena, arena, stackLength, allocated, linkSlots, isLink}
+use Rattle.definitions.specs.Arena.{Arena, arena, stackLength, allocated, isLink, withHeader}
 use Rattle.definitions.specs.Chains.{Linked}
 use Rattle.definitions.specs.Check.{WellFormed, Freelist}
 use Rattle.definitions.specs.Read.{Pointer, stale}
@@ -21,7 +21,7 @@ use Rattle.definitions.proofs.Tests.{by-test}
 use Rattle.definitions.proofs.Columns.{length-put, at-put-same, at-put-other}
 use Rattle.definitions.proofs.Slots.{allocated-yes, allocated-some, allocated-within, allocated-live, count-here, count-there}
 use Rattle.definitions.proofs.Count.{In, in-here, in-cases, none-of}
-use Rattle.definitions.proofs.Linked.{linked-agree}
+use Rattle.definitions.proofs.Linked.{linked-agree, linked-in-front}
 use Rattle.definitions.proofs.LinkCount.{one-link-fewer}
 use Rattle.definitions.proofs.Pointers.{fresh-link}
 use Rattle.kept.proofs.Neighbours.{taken-out}
@@ -121,17 +121,16 @@ module _ (limit top : ℕ) (ps ns gs vs : List ℕ) (n k r g s : ℕ) (ok : Well
     s-points = at-put-same (put ns (at ps s) (at ns s)) s f s-some (rw length-put (omega (arith, allocated-within gs n s ls, long-next limit _ ok)))
 
     list-grows : (fs : List ℕ) → Freelist before fs → s ≤ m → Freelist (after f s) (s ∷ fs)
-    unfolding firstOr lastOr Linked
     list-grows fs l within-m = record {
-      starts = refl;
-      linked = in-front fs (still-linked f fs l) (l .starts) (l .free);
+      starts = unfold firstOr in refl;
+      linked = linked-in-front (at (ns′ f)) s fs (s-points ∙ first fs (l .starts) (l .free)) (still-linked f fs l);
       free = λ x i. free x (in-cases x s fs i);
       once = λ x some within z. once x (ℕ-discrete x s) some within z;
     }
       where
-        in-front : (fs : List ℕ) → Linked (at (ns′ f)) fs (lastOr 0 fs) → firstOr 0 fs ≡ r → ((x : ℕ) → In x fs → (1 ≤ x) × (x ≤ n) × (at gs x ≡ 0)) → Linked (at (ns′ f)) (s ∷ fs) (lastOr s fs)
-        in-front [] rest starts some = (s-points ∙ rw (eq-eqb r 0 (sym starts)) refl, tt)
-        in-front (x ∷ xs) rest starts some = (s-points ∙ rw (ne-eqb r 0 (λ z. omega (arith, some x (in-here x xs)))) (sym starts), rest)
+        first : (fs : List ℕ) → firstOr 0 fs ≡ r → ((x : ℕ) → In x fs → (1 ≤ x) × (x ≤ n) × (at gs x ≡ 0)) → f ≡ firstOr s fs
+        first [] starts some = unfold firstOr in rw (eq-eqb r 0 (sym starts)) refl
+        first (x ∷ xs) starts some = unfold firstOr in rw (ne-eqb r 0 (λ z. omega (arith, some x (in-here x xs)))) (sym starts)
 
         free : (x : ℕ) → (x ≡ s) ⊎ In x fs → (1 ≤ x) × (x ≤ m) × (at gs′ x ≡ 0)
         free x (inl e) = rw e (allocated-some gs n s ls, within-m, zero-at-s)
@@ -165,7 +164,7 @@ module _ (limit top : ℕ) (a : Arena) (ok : WellFormed limit a) where
     where
       Leaves : List ℕ → Type 0
       Leaves h =
-          let b = arena (a .prev) (a .next) (a .generation) (a .payload) h in
+          let b = withHeader a h in
           WellFormed limit b → isLink b s ≡ true → WellFormed limit (removed top b s) × ((x : ℕ) → isLink b x ≡ true → (x ≡ s → ⊥) → isLink (removed top b s) x ≡ true)
 
       computed : (n k r g : ℕ) → Leaves (n ∷ k ∷ r ∷ g ∷ [])
