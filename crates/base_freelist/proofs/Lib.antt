@@ -1,0 +1,3 @@
+pub mod Settled
+pub mod Rising
+pub mod Threaded
