@@ -5,6 +5,7 @@ use mathlib.Core.Bool.{Bool, true, false, cond, not, _&&_}
 use mathlib.Core.List.{List, [], _∷_, _++_, append-nil}
 use native.Mathlib.Omega.{arith}
 use native.Mathlib.Numerals.{one-add, sub-one}
+use native.Mathlib.Decide.{ℕ-discrete}
 use lib.Dec.{leb}
 use borrow.Author.Tests.{le-leb}
 use Rattle.definitions.specs.Columns.{at, lastOr, slotsFrom, keep}
@@ -58,3 +59,15 @@ highest-below gs (suc k) h g = rw (sub-one (suc k), links-same gs k g) refl
 pub highest-none : (gs : List ℕ) (m : ℕ) → m ≡ 0 → m ≡ lastOr 0 (linkSlots gs m)
 unfolding linkSlots slotsFrom keep lastOr
 highest-none gs m z = rw z refl
+
+last-within : (gs : List ℕ) (n : ℕ) → lastOr 0 (linkSlots gs n) ≤ n
+last-within gs zero = omega (arith, highest-none gs 0 refl)
+last-within gs (suc k) =
+    go (ℕ-discrete (at gs (suc k)) 0) (last-within gs k)
+  where
+    go : Dec (at gs (suc k) ≡ 0) → lastOr 0 (linkSlots gs k) ≤ k → lastOr 0 (linkSlots gs (suc k)) ≤ suc k
+    go (yes z) h = rw (links-same gs k z) (omega arith)
+    go (no d) h = omega (arith, highest-here gs (suc k) (omega arith) d)
+
+pub highest-within : (gs : List ℕ) (n m : ℕ) → m ≡ lastOr 0 (linkSlots gs n) → m ≤ n
+highest-within gs n m e = omega (arith, last-within gs n)

@@ -54,3 +54,8 @@ clearing-goes-on m n i old column c h =
 -- ONE law for a column of any width: what the loop leaves
 pub cleared : (m n i : ℕ) (old column : List ℕ) → Clearing m n i old column → n ≤ i → column ≡ settled n (take m old) old
 cleared m n i old column c h = let e : i ≡ n = omega arith in rw e at (c .same)
+
+-- only the words past slot n are read of the old column
+pub settled-over : (n : ℕ) (ws old other : List ℕ) → drop n old ≡ drop n other → settled n ws old ≡ settled n ws other
+unfolding settled
+settled-over n ws old other e = rw e refl
