@@ -2,6 +2,7 @@
 use Prim.Native.Nat.{ℕ, _≤_}
 use mathlib.Core.Path.{_≡_, refl, sym, ap, _∙_}
 use mathlib.Core.List.{List, []}
+use native.Mathlib.Omega.{arith}
 use lib.ListN.{take}
 use Rattle.definitions.specs.Columns.{firstOr, lastOr, settled}
 use Rattle.definitions.specs.Arena.{Arena, arena, stackLength, withStackLength, withRoot, linkSlots, freeSlots}
@@ -10,7 +11,7 @@ use Rattle.definitions.specs.Remove.{threaded, canonicalizeFreelist}
 use Rattle.base_freelist.specs.Popped.{popped}
 use Rattle.base_freelist.proofs.Settled.{settled-over}
 use Rattle.base_freelist.proofs.Rising.{highest-within}
-use Rattle.base_freelist.proofs.Threaded.{threaded-drop, free-upto}
+use Rattle.base_freelist.proofs.Threaded.{threaded-drop, in-free}
 
 module _ (a : Arena) (m root : ℕ) (ns : List ℕ) where
   abbrev left : Arena
@@ -22,5 +23,5 @@ module _ (a : Arena) (m root : ℕ) (ns : List ℕ) where
   unfolding canonicalizeFreelist
   canonicalized e r t =
       let n = stackLength a in
-      let past = threaded-drop n (a .next) (freeSlots (a .generation) m) (free-upto (a .generation) m n (highest-within (a .generation) n m e)) in
+      let past = threaded-drop n (a .next) (freeSlots (a .generation) m) (λ s h. let below = in-free (a .generation) m s h in omega (arith, highest-within (a .generation) n m e)) in
       rw (t, settled-over n (take m (threaded (a .next) (freeSlots (a .generation) m))) (threaded (a .next) (freeSlots (a .generation) m)) (a .next) past, r, ← e) refl

@@ -11,14 +11,7 @@ use borrow.Author.Tests.{le-leb}
 use Rattle.definitions.specs.Columns.{at, lastOr, slotsFrom, keep}
 use Rattle.definitions.specs.Arena.{allocated, linkSlots}
 use Rattle.definitions.proofs.Slots.{slots-snoc, keep-append, allocated-yes, allocated-free}
-
--- two tests that agree on a run of slots keep the same of them
-pub keep-agree : (p q : ℕ → Bool) (s k : ℕ) → ((x : ℕ) → s ≤ x → x < s + k → p x ≡ q x) → keep p (slotsFrom s k) ≡ keep q (slotsFrom s k)
-unfolding keep slotsFrom
-keep-agree p q s zero f = refl
-keep-agree p q s (suc k) f =
-    let rest = keep-agree p q (suc s) k (λ x a b. f x (omega arith) (omega arith)) in
-    rw (f s (omega arith) (omega arith), rest) refl
+use Rattle.definitions.proofs.Count.{keep-agree, in-slots}
 
 -- up to the shorter of two stack lengths a slot is allocated in both or in neither
 allocated-agree : (gs : List ℕ) (n m s : ℕ) → s ≤ n → s ≤ m → allocated gs n s ≡ allocated gs m s
@@ -28,7 +21,7 @@ allocated-agree gs n m s h l = rw (le-leb s n h, le-leb s m l) refl
 module _ (gs : List ℕ) (k : ℕ) where
   keep-below : keep (allocated gs (suc k)) (slotsFrom 1 k) ≡ linkSlots gs k
   unfolding linkSlots
-  keep-below = keep-agree _ _ 1 k (λ x a b. allocated-agree gs (suc k) k x (omega arith) (omega arith))
+  keep-below = keep-agree _ _ (slotsFrom 1 k) (λ x h. let within = in-slots x 1 k h in allocated-agree gs (suc k) k x (omega arith) (omega arith))
 
   last-slot : slotsFrom 1 (suc k) ≡ slotsFrom 1 k ++ (suc k ∷ [])
   last-slot = slots-snoc 1 k ∙ ap (λ (x : ℕ). slotsFrom 1 k ++ (x ∷ [])) (one-add k)

@@ -6,15 +6,14 @@ use mathlib.Core.List.{List, [], _∷_, _++_}
 use native.Mathlib.Omega.{arith}
 use native.Mathlib.Nat.{sub-self, sub-zero}
 use native.Mathlib.Numerals.{sub-one}
-use native.Mathlib.Decide.{ℕ-discrete}
 use lib.ListN.{length, set, drop}
 use lib.Seq.{set-comm, drop-set-lt}
-use Rattle.definitions.specs.Columns.{at, put, count, firstOr, slotsFrom, keep}
+use Rattle.definitions.specs.Columns.{at, put, firstOr, slotsFrom, keep}
 use Rattle.definitions.specs.Arena.{allocated, freeSlots}
 use Rattle.definitions.specs.Remove.{threaded}
-use Rattle.definitions.proofs.Tests.{by-test}
 use Rattle.definitions.proofs.Columns.{length-put}
-use Rattle.definitions.proofs.Slots.{allocated-yes, allocated-free, count-nil, count-here, count-there}
+use Rattle.definitions.proofs.Slots.{allocated-yes, allocated-free}
+use Rattle.definitions.proofs.Count.{In, in-here, in-there, in-slots, in-keep}
 
 -- ---- threading a list of slots into the next column
 
@@ -30,14 +29,12 @@ length-threaded ns [] = refl
 length-threaded ns (s ∷ fs) = length-threaded (put ns s (firstOr s fs)) fs ∙ length-put ns s (firstOr s fs)
 
 -- a slot that is not on the list may be written before or after
-pub threaded-put : (ns fs : List ℕ) (s v : ℕ) → count s fs ≡ 0 → threaded (put ns s v) fs ≡ put (threaded ns fs) s v
+pub threaded-put : (ns fs : List ℕ) (s v : ℕ) → (In s fs → ⊥) → threaded (put ns s v) fs ≡ put (threaded ns fs) s v
 unfolding threaded
-threaded-put ns [] s v z = refl
-threaded-put ns (t ∷ fs) s v z = go (ℕ-discrete s t) (λ w. threaded-put (put ns t (firstOr t fs)) fs s v w)
-  where
-    go : Dec (s ≡ t) → (count s fs ≡ 0 → threaded (put (put ns t (firstOr t fs)) s v) fs ≡ put (threaded (put ns t (firstOr t fs)) fs) s v) → threaded (put (put ns s v) t (firstOr t fs)) fs ≡ put (threaded (put ns t (firstOr t fs)) fs) s v
-    go (yes e) ih = absurd (omega (arith, z, ap (λ (x : ℕ). count x (t ∷ fs)) e, count-here t fs))
-    go (no d) ih = rw (put-comm ns s t v (firstOr t fs) d) (ih (sym (count-there s t fs d) ∙ z))
+threaded-put ns [] s v out = refl
+threaded-put ns (t ∷ fs) s v out =
+    let apart : s ≡ t → ⊥ = λ e. out (rw e (in-here t fs)) in
+    rw (put-comm ns s t v (firstOr t fs) apart) (threaded-put (put ns t (firstOr t fs)) fs s v (λ i. out (in-there s t fs i)))
 
 -- words past slot n are left alone, if no slot of the list is past it
 put-drop : (n : ℕ) (xs : List ℕ) (s v : ℕ) → s ≤ n → drop n (put xs s v) ≡ drop n xs
@@ -45,14 +42,11 @@ unfolding put
 put-drop n xs zero v l = refl
 put-drop n xs (suc i) v l = drop-set-lt n xs i v l
 
-pub data Upto (n : ℕ) : List ℕ → Type 0 where
-  none : Upto n []
-  one : {s : ℕ} {ss : List ℕ} → s ≤ n → Upto n ss → Upto n (s ∷ ss)
-
-pub threaded-drop : (n : ℕ) (ns fs : List ℕ) → Upto n fs → drop n (threaded ns fs) ≡ drop n ns
+pub threaded-drop : (n : ℕ) (ns fs : List ℕ) → ((s : ℕ) → In s fs → s ≤ n) → drop n (threaded ns fs) ≡ drop n ns
 unfolding threaded
-threaded-drop n ns fs none = refl
-threaded-drop n ns fs (one {s} {ss} h u) = threaded-drop n (put ns s (firstOr s ss)) ss u ∙ put-drop n ns s (firstOr s ss) h
+threaded-drop n ns [] f = refl
+threaded-drop n ns (s ∷ fs) f =
+    threaded-drop n (put ns s (firstOr s fs)) fs (λ t i. f t (in-there t s fs i)) ∙ put-drop n ns s (firstOr s fs) (f s (in-here s fs))
 
 -- ---- the free slots above slot i, of a stack of m slots
 
@@ -80,30 +74,19 @@ module _ (gs : List ℕ) (m : ℕ) where
   unfolding keep
   free-same i h g = rw (slots-above i h, allocated-yes gs m (suc i) h g) refl
 
--- a slot at or below i does not stand among those above it
-pub kept-above : (test : ℕ → Bool) (x s k : ℕ) → x < s → count x (keep test (slotsFrom s k)) ≡ 0
-unfolding keep slotsFrom
-kept-above test x s zero h = count-nil x
-kept-above test x s (suc k) h =
-    let rest = kept-above test x (suc s) k (omega arith) in
-    by-test (test s) (λ e. rw e (count-there x s _ (omega arith) ∙ rest)) (λ e. rw e rest)
+-- which slots they are
+pub in-free-above : (gs : List ℕ) (m i x : ℕ) → In x (freeAbove gs m i) → i < x
+in-free-above gs m i x h = let run = in-slots x (suc i) (m - i) (in-keep _ x _ h .1) in omega arith
 
-pub kept-upto : (test : ℕ → Bool) (n s k : ℕ) → s + k ≤ suc n → Upto n (keep test (slotsFrom s k))
-unfolding keep slotsFrom
-kept-upto test n s zero h = none
-kept-upto test n s (suc k) h =
-    let rest = kept-upto test n (suc s) k (omega arith) in
-    by-test (test s) (λ e. rw e (one {s = s} (omega arith) rest)) (λ e. rw e rest)
-
-pub free-upto : (gs : List ℕ) (m n : ℕ) → m ≤ n → Upto n (freeSlots gs m)
+pub in-free : (gs : List ℕ) (m x : ℕ) → In x (freeSlots gs m) → x ≤ m
 unfolding freeSlots
-free-upto gs m n h = kept-upto _ n 1 m (omega arith)
+in-free gs m x h = let run = in-slots x 1 m (in-keep _ x _ h .1) in omega arith
 
 -- the first of a list without 0: none, or the same for every other word that stands for none
-first-none : (z : ℕ) (fs : List ℕ) → count 0 fs ≡ 0 → firstOr 0 fs ≡ 0 → firstOr z fs ≡ z
+first-none : (z : ℕ) (fs : List ℕ) → (In 0 fs → ⊥) → firstOr 0 fs ≡ 0 → firstOr z fs ≡ z
 unfolding firstOr
-first-none z [] c e = refl
-first-none z (x ∷ fs) c e = absurd (omega (arith, c, ap (λ (y : ℕ). count y (x ∷ fs)) e, count-here x fs))
+first-none z [] out e = refl
+first-none z (x ∷ fs) out e = absurd (out (rw (← e) (in-here x fs)))
 
 first-some : (z : ℕ) (fs : List ℕ) → (firstOr 0 fs ≡ 0 → ⊥) → firstOr z fs ≡ firstOr 0 fs
 unfolding firstOr
@@ -136,7 +119,7 @@ module _ (gs old : List ℕ) (m : ℕ) where
   relisting-lists zero ns earliest v r d g q = absurd (d refl)
   relisting-lists (suc k) ns earliest v r d g q =
       let e = free-more gs m k (r .within) g in
-      let apart = kept-above (λ s. not (allocated gs m s)) (suc k) (suc (suc k)) (m - suc k) (omega arith) in
+      let apart : In (suc k) (freeAbove gs m (suc k)) → ⊥ = λ i. let above = in-free-above gs m (suc k) (suc k) i in omega arith in
       rw (sub-one (suc k))
       (record {
         within = omega arith;
@@ -146,7 +129,7 @@ module _ (gs old : List ℕ) (m : ℕ) where
       })
 
   pub points-at-itself : (i : ℕ) (ns : List ℕ) (earliest : ℕ) → Relisting gs old m i ns earliest → earliest ≡ 0 → i ≡ firstOr i (freeAbove gs m i)
-  points-at-itself i ns earliest r z = sym (first-none i (freeAbove gs m i) (kept-above _ 0 (suc i) (m - i) (omega arith)) (sym (r .first) ∙ z))
+  points-at-itself i ns earliest r e = sym (first-none i (freeAbove gs m i) (λ z. let above = in-free-above gs m i 0 z in omega arith) (sym (r .first) ∙ e))
 
   pub points-at-earliest : (i : ℕ) (ns : List ℕ) (earliest : ℕ) → Relisting gs old m i ns earliest → (earliest ≡ 0 → ⊥) → earliest ≡ firstOr i (freeAbove gs m i)
   points-at-earliest i ns earliest r d = r .first ∙ sym (first-some i (freeAbove gs m i) (λ z. d (r .first ∙ z)))
