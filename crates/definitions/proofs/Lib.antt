@@ -7,3 +7,6 @@ pub mod Linked
 pub mod Freelist
 pub mod Shaped
 pub mod Interlinks
+pub mod LinkCount
+pub mod Parts
+pub mod Relisted
