@@ -1,5 +1,12 @@
 pub mod Tests
 pub mod Columns
 pub mod Slots
+pub mod Pointers
+pub mod Count
+pub mod Linked
+pub mod Freelist
 pub mod Shaped
 pub mod Interlinks
+pub mod LinkCount
+pub mod Parts
+pub mod Relisted

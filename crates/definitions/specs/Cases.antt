@@ -7,7 +7,7 @@ use Rattle.definitions.specs.Arena.{Arena, arena, capacityLimit, largest
 use Rattle.definitions.specs.Reply.{Reply}
 use Rattle.definitions.specs.Read.{pointer, stale, getLink, getLinkNoGen, neighbors, areNeighbors}
 use Rattle.definitions.specs.Walk.{walk, walkStart, onward, step, walkStep, walked}
-use Rattle.definitions.specs.Calls.{Call, Made, Check, WalkStart, WalkStep, Connect, ExchangeNext, Remove, Drain, CompressCanonical, repliesTo, arenaAfter, accepted, replyTo}
+use Rattle.definitions.specs.Calls.{Call, Made, GetLink, GetLinkNoGen, AreNeighbors, BreakPrev, BreakNext, SetGeneration, IncGeneration, CanonicalizeFreelist, Run, CompressWith, Check, WalkStart, WalkStep, Connect, ExchangeNext, Remove, Drain, CompressCanonical, repliesTo, arenaAfter, accepted, replyTo}
 use Rattle.definitions.specs.Columns.{at, put, firstOr, lastOr, slotsFrom, keep, written, settled}
 use Rattle.definitions.specs.Check.{misshapen, freelistWalk, namesBack, neighboursFine, allFine, countsOf, verdict}
 use Rattle.definitions.specs.Edit.{connect, breakPrev, breakNext, exchangeNext, nextGeneration, overflows, setGeneration, incGeneration}
@@ -86,3 +86,40 @@ rows =
 pub marked-cases : map computed rows ≡ map expected rows
 unfolding rows at put firstOr lastOr slotsFrom keep written settled allocated linkSlots freeSlots misshapen freelistWalk namesBack neighboursFine allFine countsOf verdict stale getLink getLinkNoGen neighbors areNeighbors walkStart onward step walkStep walked connect breakPrev breakNext exchangeNext nextGeneration overflows setGeneration incGeneration joined vacated removed remove removedAll drainItems overflowItem drain threaded canonicalizeFreelist apply applied answersOf run raises compressGeneration compressNumber place relocate movesOf compressWith exchanged exchangeWords exchangeLinks exchangeSlots putAtI lowestFrom startOf layChain layChains laidOut canonicalArena compressCanonical accepted replyTo repliesTo arenaAfter
 marked-cases = refl
+
+-- Corners: the limits, each refusal of a call, and the readings of docs/DECISIONS.md, in the same form
+unfoldable pub corners : List Row
+corners =
+    -- a removal at the largest generation overflows, and the work is done
+    row (arena (0 ∷ []) (0 ∷ []) (5 ∷ []) (11 ∷ []) (1 ∷ 1 ∷ 0 ∷ 4294967295 ∷ [])) (plain (Remove (pointer 1 5)) ∷ []) ((100 ∷ 0 ∷ 0 ∷ 11 ∷ []) ∷ []) (arena (0 ∷ []) (0 ∷ []) (0 ∷ []) (0 ∷ []) (0 ∷ 0 ∷ 0 ∷ 2 ∷ [])) ∷
+    -- so does inc_generation; set_generation refuses 1 and takes 2
+    row (arena (0 ∷ []) (0 ∷ []) (5 ∷ []) (11 ∷ []) (1 ∷ 1 ∷ 0 ∷ 4294967295 ∷ [])) (plain IncGeneration ∷ plain (SetGeneration 1) ∷ plain (SetGeneration 2) ∷ []) ((100 ∷ []) ∷ (15 ∷ []) ∷ (0 ∷ []) ∷ []) (arena (0 ∷ []) (0 ∷ []) (5 ∷ []) (11 ∷ []) (1 ∷ 1 ∷ 0 ∷ 2 ∷ [])) ∷
+    -- exchange of a pointer with itself and without a next is refused
+    row three (plain (ExchangeNext (pointer 3 5) (pointer 3 5)) ∷ []) ((13 ∷ []) ∷ []) three ∷
+    -- break prev, then next of what is left, then a stale and a lone one
+    row three (plain (BreakPrev (pointer 2 5)) ∷ plain (BreakNext (pointer 2 5)) ∷ plain (BreakNext (pointer 2 5)) ∷ plain (BreakPrev (pointer 2 6)) ∷ []) ((0 ∷ []) ∷ (0 ∷ []) ∷ (13 ∷ []) ∷ (12 ∷ []) ∷ []) (arena (0 ∷ 0 ∷ 0 ∷ []) (0 ∷ 0 ∷ 0 ∷ []) (5 ∷ 5 ∷ 5 ∷ []) (11 ∷ 12 ∷ 13 ∷ []) (3 ∷ 3 ∷ 0 ∷ 5 ∷ [])) ∷
+    -- reading the middle of a chain, a stale pointer, and neighbours
+    row three (plain (GetLink (pointer 2 5)) ∷ plain (GetLink (pointer 1 5)) ∷ plain (GetLinkNoGen (pointer 3 5)) ∷ plain (GetLink (pointer 4 5)) ∷ plain (AreNeighbors (pointer 1 5) (pointer 2 5)) ∷ plain (AreNeighbors (pointer 2 5) (pointer 1 5)) ∷ plain (AreNeighbors (pointer 1 5) (pointer 2 6)) ∷ []) ((0 ∷ 1 ∷ 5 ∷ 3 ∷ 5 ∷ 12 ∷ []) ∷ (0 ∷ 0 ∷ 0 ∷ 2 ∷ 5 ∷ 11 ∷ []) ∷ (0 ∷ 2 ∷ 0 ∷ 13 ∷ []) ∷ (12 ∷ 0 ∷ 0 ∷ 0 ∷ 0 ∷ 0 ∷ []) ∷ (0 ∷ 1 ∷ []) ∷ (0 ∷ 0 ∷ []) ∷ (0 ∷ 0 ∷ []) ∷ []) three ∷
+    -- a walk from the middle turns at the end, and ends at the start
+    row three (plain (WalkStart (pointer 2 5)) ∷ with WalkStep (2 ∷ 2 ∷ 0 ∷ 3 ∷ []) ∷ with WalkStep (2 ∷ 3 ∷ 0 ∷ 2 ∷ []) ∷ with WalkStep (2 ∷ 1 ∷ 1 ∷ 1 ∷ []) ∷ with WalkStep (2 ∷ 0 ∷ 1 ∷ 0 ∷ []) ∷ []) ((0 ∷ 2 ∷ 2 ∷ 0 ∷ 3 ∷ []) ∷ (0 ∷ 2 ∷ 5 ∷ 2 ∷ 3 ∷ 0 ∷ 2 ∷ []) ∷ (0 ∷ 3 ∷ 5 ∷ 2 ∷ 1 ∷ 1 ∷ 1 ∷ []) ∷ (0 ∷ 1 ∷ 5 ∷ 2 ∷ 0 ∷ 1 ∷ 0 ∷ []) ∷ (0 ∷ 0 ∷ 0 ∷ 2 ∷ 0 ∷ 1 ∷ 0 ∷ []) ∷ []) three ∷
+    -- a step past the stack ends, and one in a refused arena hands its state back
+    row (arena (0 ∷ []) (0 ∷ []) (5 ∷ []) (11 ∷ []) (1 ∷ 1 ∷ 0 ∷ 5 ∷ [])) (with WalkStep (7 ∷ 70000 ∷ 3 ∷ 9 ∷ []) ∷ with WalkStep (1 ∷ 1 ∷ 0 ∷ 0 ∷ []) ∷ []) ((0 ∷ 0 ∷ 0 ∷ 7 ∷ 0 ∷ 3 ∷ 8 ∷ []) ∷ (0 ∷ 0 ∷ 0 ∷ 1 ∷ 1 ∷ 0 ∷ 0 ∷ []) ∷ []) (arena (0 ∷ []) (0 ∷ []) (5 ∷ []) (11 ∷ []) (1 ∷ 1 ∷ 0 ∷ 5 ∷ [])) ∷
+    -- a link whose next does not name it back
+    row (arena (0 ∷ 0 ∷ []) (2 ∷ 0 ∷ []) (5 ∷ 5 ∷ []) (11 ∷ 12 ∷ []) (2 ∷ 2 ∷ 0 ∷ 5 ∷ [])) (plain Check ∷ with WalkStep (1 ∷ 1 ∷ 0 ∷ 2 ∷ []) ∷ plain (GetLinkNoGen (pointer 1 5)) ∷ []) ((11 ∷ []) ∷ (11 ∷ 0 ∷ 0 ∷ 1 ∷ 1 ∷ 0 ∷ 2 ∷ []) ∷ (11 ∷ 0 ∷ 0 ∷ 0 ∷ []) ∷ []) (arena (0 ∷ 0 ∷ []) (2 ∷ 0 ∷ []) (5 ∷ 5 ∷ []) (11 ∷ 12 ∷ []) (2 ∷ 2 ∷ 0 ∷ 5 ∷ [])) ∷
+    -- the freelist in order: free end slots are popped, the words of other free slots stay
+    row (arena (7 ∷ 8 ∷ 0 ∷ 9 ∷ 6 ∷ []) (5 ∷ 2 ∷ 0 ∷ 1 ∷ 2 ∷ []) (0 ∷ 0 ∷ 5 ∷ 0 ∷ 0 ∷ []) (21 ∷ 22 ∷ 13 ∷ 24 ∷ 25 ∷ []) (5 ∷ 1 ∷ 4 ∷ 5 ∷ [])) (plain Check ∷ plain CanonicalizeFreelist ∷ plain Check ∷ []) ((0 ∷ []) ∷ (0 ∷ []) ∷ (0 ∷ []) ∷ []) (arena (7 ∷ 8 ∷ 0 ∷ 0 ∷ 0 ∷ []) (2 ∷ 2 ∷ 0 ∷ 0 ∷ 0 ∷ []) (0 ∷ 0 ∷ 5 ∷ 0 ∷ 0 ∷ []) (21 ∷ 22 ∷ 13 ∷ 0 ∷ 0 ∷ []) (3 ∷ 1 ∷ 1 ∷ 5 ∷ [])) ∷
+    -- a run: 16 for words that are no multiple of five, 14 for too few answers
+    row three (with (Run (1 ∷ 2 ∷ 3 ∷ [])) (9 ∷ []) ∷ with (Run (9 ∷ 0 ∷ 0 ∷ 0 ∷ 0 ∷ 9 ∷ 0 ∷ 0 ∷ 0 ∷ 0 ∷ [])) (9 ∷ []) ∷ []) ((16 ∷ 9 ∷ []) ∷ (14 ∷ 9 ∷ []) ∷ []) three ∷
+    -- a run: exchange, a code that is none, a stale connect, a connect that is taken, a removal that overflows
+    row (arena (0 ∷ 1 ∷ 2 ∷ []) (2 ∷ 3 ∷ 0 ∷ []) (5 ∷ 5 ∷ 5 ∷ []) (11 ∷ 12 ∷ 13 ∷ []) (3 ∷ 3 ∷ 0 ∷ 4294967295 ∷ [])) (with (Run (4 ∷ 1 ∷ 5 ∷ 2 ∷ 5 ∷ 9 ∷ 0 ∷ 0 ∷ 0 ∷ 0 ∷ 1 ∷ 70000 ∷ 5 ∷ 1 ∷ 5 ∷ 1 ∷ 2 ∷ 5 ∷ 2 ∷ 5 ∷ 5 ∷ 3 ∷ 5 ∷ 0 ∷ 0 ∷ [])) (9 ∷ 9 ∷ 9 ∷ 9 ∷ 9 ∷ 9 ∷ []) ∷ []) ((0 ∷ 0 ∷ 16 ∷ 12 ∷ 13 ∷ 100 ∷ 9 ∷ []) ∷ []) (arena (0 ∷ 2 ∷ 0 ∷ []) (0 ∷ 2 ∷ 0 ∷ []) (5 ∷ 5 ∷ 0 ∷ []) (11 ∷ 12 ∷ 0 ∷ []) (2 ∷ 2 ∷ 0 ∷ 2 ∷ [])) ∷
+    -- a drain that overflows at its second item
+    row (arena (0 ∷ 1 ∷ 2 ∷ []) (2 ∷ 3 ∷ 0 ∷ []) (5 ∷ 5 ∷ 5 ∷ []) (11 ∷ 12 ∷ 13 ∷ []) (3 ∷ 3 ∷ 0 ∷ 4294967294 ∷ [])) (with (Drain (pointer 1 5)) (9 ∷ 9 ∷ 9 ∷ 9 ∷ 9 ∷ 9 ∷ 9 ∷ 9 ∷ 9 ∷ 9 ∷ 9 ∷ 9 ∷ 9 ∷ 9 ∷ 9 ∷ []) ∷ []) ((0 ∷ 3 ∷ 2 ∷ 1 ∷ 5 ∷ 0 ∷ 2 ∷ 11 ∷ 2 ∷ 5 ∷ 0 ∷ 3 ∷ 12 ∷ 3 ∷ 5 ∷ 0 ∷ 0 ∷ 13 ∷ []) ∷ []) (arena (0 ∷ 0 ∷ 0 ∷ []) (1 ∷ 1 ∷ 0 ∷ []) (0 ∷ 0 ∷ 0 ∷ []) (0 ∷ 0 ∷ 0 ∷ []) (2 ∷ 0 ∷ 2 ∷ 3 ∷ [])) ∷
+    -- compress_with: links 2 and 4 of a closed pair go to slots 1 and 2; a report that is too short
+    row (arena (0 ∷ 4 ∷ 0 ∷ 2 ∷ []) (3 ∷ 4 ∷ 3 ∷ 2 ∷ []) (0 ∷ 5 ∷ 0 ∷ 6 ∷ []) (0 ∷ 12 ∷ 0 ∷ 14 ∷ []) (4 ∷ 2 ∷ 1 ∷ 5 ∷ [])) (with (CompressWith false) (9 ∷ 9 ∷ 9 ∷ 9 ∷ 9 ∷ 9 ∷ 9 ∷ []) ∷ with (CompressWith false) (9 ∷ 9 ∷ 9 ∷ 9 ∷ 9 ∷ 9 ∷ 9 ∷ 9 ∷ 9 ∷ []) ∷ []) ((14 ∷ 9 ∷ 9 ∷ 9 ∷ 9 ∷ 9 ∷ 9 ∷ 9 ∷ []) ∷ (0 ∷ 2 ∷ 5 ∷ 1 ∷ 6 ∷ 4 ∷ 6 ∷ 2 ∷ 6 ∷ 9 ∷ []) ∷ []) (arena (2 ∷ 1 ∷ 0 ∷ 0 ∷ []) (2 ∷ 1 ∷ 0 ∷ 0 ∷ []) (6 ∷ 6 ∷ 0 ∷ 0 ∷ []) (12 ∷ 14 ∷ 0 ∷ 0 ∷ []) (2 ∷ 2 ∷ 0 ∷ 6 ∷ [])) ∷
+    -- canonical compression from the largest generation overflows; with reset it does not; a where-from column of another length is refused
+    row (arena (0 ∷ 4 ∷ 0 ∷ 2 ∷ []) (3 ∷ 4 ∷ 3 ∷ 2 ∷ []) (0 ∷ 5 ∷ 0 ∷ 6 ∷ []) (0 ∷ 12 ∷ 0 ∷ 14 ∷ []) (4 ∷ 2 ∷ 1 ∷ 4294967295 ∷ [])) (with (CompressCanonical false) (9 ∷ 9 ∷ 9 ∷ []) ∷ with (CompressCanonical false) (9 ∷ 9 ∷ 9 ∷ 9 ∷ []) ∷ with (CompressCanonical true) (9 ∷ 9 ∷ 9 ∷ 9 ∷ []) ∷ []) ((14 ∷ 9 ∷ 9 ∷ 9 ∷ []) ∷ (100 ∷ 2 ∷ 4 ∷ 0 ∷ 0 ∷ []) ∷ (0 ∷ 1 ∷ 2 ∷ 9 ∷ 9 ∷ []) ∷ []) (arena (2 ∷ 1 ∷ 0 ∷ 0 ∷ []) (2 ∷ 1 ∷ 0 ∷ 0 ∷ []) (2 ∷ 2 ∷ 0 ∷ 0 ∷ []) (12 ∷ 14 ∷ 0 ∷ 0 ∷ []) (2 ∷ 2 ∷ 0 ∷ 2 ∷ [])) ∷
+    []
+
+pub corners-hold : map computed corners ≡ map expected corners
+unfolding corners at put firstOr lastOr slotsFrom keep written settled allocated linkSlots freeSlots misshapen freelistWalk namesBack neighboursFine allFine countsOf verdict stale getLink getLinkNoGen neighbors areNeighbors walkStart onward step walkStep walked connect breakPrev breakNext exchangeNext nextGeneration overflows setGeneration incGeneration joined vacated removed remove removedAll drainItems overflowItem drain threaded canonicalizeFreelist apply applied answersOf run raises compressGeneration compressNumber place relocate movesOf compressWith exchanged exchangeWords exchangeLinks exchangeSlots putAtI lowestFrom startOf layChain layChains laidOut canonicalArena compressCanonical accepted replyTo repliesTo arenaAfter
+corners-hold = refl

@@ -1,0 +1,1 @@
+// Theorems about the check's definition stand in proofs/. There is no code here.
