@@ -2,7 +2,7 @@
 use native.Mathlib.Omega.{arith}
 use borrow.Author.Needs.{needs}
 use Rattle.definitions.proofs.Tests.{came-true, tests}
-use Rattle.chain_iterators.proofs.Step.{link-slot}
+use Rattle.definitions.proofs.Steps.{link-slot}
 use Rattle.chain_iterators.proofs.prev_of.Statement.{statement}
 use Rattle.chain_iterators.proofs.prev_of.Tie as tie
 

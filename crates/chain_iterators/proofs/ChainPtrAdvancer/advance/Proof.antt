@@ -4,7 +4,7 @@ use native.Mathlib.Omega.{arith}
 use borrow.Author.Needs.{needs}
 use Rattle.definitions.specs.Walk.{none}
 use Rattle.definitions.proofs.Tests.{came-true, came-false}
-use Rattle.chain_iterators.proofs.Step.{link-slot, step-spent, step-ends, step-answers}
+use Rattle.definitions.proofs.Steps.{link-slot, step-spent, step-ends, step-answers}
 use Rattle.chain_iterators.proofs.ChainPtrAdvancer.advance.Statement.{statement}
 use Rattle.chain_iterators.proofs.ChainPtrAdvancer.advance.Tie as tie
 

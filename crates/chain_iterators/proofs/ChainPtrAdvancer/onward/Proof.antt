@@ -3,7 +3,7 @@
 use mathlib.Core.Path.{_∙_}
 use native.Mathlib.Omega.{arith}
 use borrow.Author.Needs.{needs}
-use Rattle.chain_iterators.proofs.Step.{link-slot, onward-back, onward-turns, onward-round, onward-ahead}
+use Rattle.definitions.proofs.Steps.{link-slot, onward-back, onward-turns, onward-round, onward-ahead}
 use Rattle.chain_iterators.proofs.ChainPtrAdvancer.onward.Statement.{statement}
 use Rattle.chain_iterators.proofs.ChainPtrAdvancer.onward.Tie as tie
 
