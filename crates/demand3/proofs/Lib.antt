@@ -1,0 +1,2 @@
+pub mod Bring
+pub mod Order
