@@ -1,2 +1,3 @@
 pub mod Bring
 pub mod Order
+pub mod Pieces
