@@ -1,3 +1,4 @@
 pub mod Bring
 pub mod Order
 pub mod Pieces
+pub mod PiecesAreChains
