@@ -2,3 +2,4 @@ pub mod Bring
 pub mod Order
 pub mod Pieces
 pub mod PiecesAreChains
+pub mod Again
