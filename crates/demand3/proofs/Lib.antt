@@ -3,3 +3,4 @@ pub mod Order
 pub mod Pieces
 pub mod PiecesAreChains
 pub mod Again
+pub mod Exchange
