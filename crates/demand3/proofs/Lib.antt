@@ -4,3 +4,4 @@ pub mod Pieces
 pub mod PiecesAreChains
 pub mod Again
 pub mod Exchange
+pub mod Carried
