@@ -5,3 +5,4 @@ pub mod PiecesAreChains
 pub mod Again
 pub mod Exchange
 pub mod Carried
+pub mod LayChain
