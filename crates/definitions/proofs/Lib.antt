@@ -7,3 +7,4 @@ pub mod Linked
 pub mod Freelist
 pub mod Shaped
 pub mod Interlinks
+pub mod Fields
