@@ -8,3 +8,7 @@ pub mod Freelist
 pub mod Shaped
 pub mod Interlinks
 pub mod Fields
+pub mod LinkCount
+pub mod Parts
+pub mod Relisted
+pub mod Steps

@@ -18,6 +18,12 @@ Named link ys x y = (y ≡ 0 → ⊥) → (link y ≡ true) × (at ys y ≡ x)
 abbrev pub Side : (ℕ → Bool) → List ℕ → List ℕ → Type 0
 Side link xs ys = (x : ℕ) → link x ≡ true → Named link ys x (at xs x)
 
+-- columns that read the same at links, for a test that holds of the same slots
+pub side-agrees : (link same : ℕ → Bool) (xs ys xs′ ys′ : List ℕ) → Side link xs ys → ((x : ℕ) → same x ≡ true → link x ≡ true) → ((x : ℕ) → link x ≡ true → same x ≡ true)
+    → ((x : ℕ) → link x ≡ true → at xs′ x ≡ at xs x) → ((x : ℕ) → link x ≡ true → at ys′ x ≡ at ys x) → Side same xs′ ys′
+side-agrees link same xs ys xs′ ys′ side was stays agree-xs agree-ys x l =
+    rw (agree-xs x (was x l)) (λ some. let r = side x (was x l) some in (stays (at xs x) (r .0), agree-ys (at xs x) (r .0) ∙ r .1))
+
 -- the links stand in slots 1 to n, and the columns are long enough
 module _ (link : ℕ → Bool) (n : ℕ) (within : (x : ℕ) → link x ≡ true → (1 ≤ x) × (x ≤ n)) (xs ys : List ℕ) (long-xs : n ≤ length xs) (long-ys : n ≤ length ys) (side : Side link xs ys) where
   written-xs : (s v : ℕ) → link s ≡ true → at (put xs s v) s ≡ v

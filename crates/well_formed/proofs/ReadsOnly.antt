@@ -1,0 +1,87 @@
+-- The verdict depends only on the words that document 01 reads: 'Only slots up to the stack length are free or allocated, and words past it
+-- are not read. Generation 0 marks a free slot; its next then holds the freelist pointer and its other words are not read.'
+-- Two arenas that agree on those words have the same links and free slots; the freelist walk reads next and generation of slots that it has
+-- found to be in the stack; and rule 11 reads prev and next of links only. Assumes nothing.
+use Prim.Native.Nat.{ℕ, zero, suc, _+_, _≤_}
+use mathlib.Core.Path.{_≡_, refl, sym, ap, _∙_}
+use mathlib.Core.Bool.{true, not}
+use mathlib.Core.List.{List}
+use native.Mathlib.Omega.{arith}
+use native.Mathlib.Decide.{decLe}
+use lib.ListN.{getD}
+use borrow.Author.Tests.{lt-ltb}
+use Rattle.definitions.specs.Columns.{at, slotsFrom}
+use Rattle.definitions.specs.Arena.{Arena, stackLength, linkCount, root, allocated, linkSlots, freeSlots}
+use Rattle.definitions.specs.Check.{misshapen, freelistWalk, namesBack, neighboursFine, allFine, countsOf, verdict, SameRead}
+use Rattle.definitions.proofs.Tests.{by-test}
+use Rattle.definitions.proofs.Slots.{allocated-past, allocated-within}
+use Rattle.definitions.proofs.Count.{keep-agree}
+use Rattle.definitions.proofs.Shaped.{countsVerdict, interlinksFine}
+
+-- two columns agree on the slots up to n
+abbrev AgreeTo : ℕ → List ℕ → List ℕ → Type 0
+AgreeTo n xs ys = (s : ℕ) → s ≤ n → at xs s ≡ at ys s
+
+module _ (gs hs : List ℕ) (n : ℕ) (generation : AgreeTo n gs hs) where
+  same-allocated : (s : ℕ) → allocated gs n s ≡ allocated hs n s
+  same-allocated s = elim (decLe s n) [ yes l ↦ (unfold allocated in rw (generation s l) refl) | no l ↦ allocated-past gs n s (omega arith) ∙ sym (allocated-past hs n s (omega arith)) ]
+
+  same-links : linkSlots gs n ≡ linkSlots hs n
+  unfolding linkSlots
+  same-links = keep-agree _ _ (slotsFrom 1 n) (λ s i. same-allocated s)
+
+  same-free : freeSlots gs n ≡ freeSlots hs n
+  unfolding freeSlots
+  same-free = keep-agree _ _ (slotsFrom 1 n) (λ s i. ap not (same-allocated s))
+
+  module _ (ns ms : List ℕ) (next : AgreeTo n ns ms) where
+    same-walk : (left s visited : ℕ) → freelistWalk ns gs n left s visited ≡ freelistWalk ms hs n left s visited
+    unfolding freelistWalk
+    same-walk zero s visited = refl
+    same-walk (suc left) s visited =
+        elim (decLe s n) [
+          | yes l ↦ rw (generation s l, next s l, same-free, same-walk left (at ms s) (visited + 1)) refl
+          | no l ↦ rw (lt-ltb n s (omega arith)) refl
+        ]
+
+    same-counts : (m s : ℕ) → countsOf ns gs n m s ≡ countsOf ms hs n m s
+    unfolding countsOf
+    same-counts m s = rw (same-links, same-free, same-walk (n + 2) s 0) refl
+
+    module _ (ps qs : List ℕ) (prev : (s : ℕ) → allocated gs n s ≡ true → at ps s ≡ at qs s) where
+      same-names-back : (bs cs : List ℕ) (x s : ℕ) → ((t : ℕ) → allocated gs n t ≡ true → at bs t ≡ at cs t) → namesBack bs gs n x s ≡ namesBack cs hs n x s
+      unfolding namesBack
+      same-names-back bs cs x s agree =
+          by-test (allocated gs n s) (λ e. rw (← same-allocated s, agree s e) refl) (λ e. rw (← same-allocated s, e) refl)
+
+      same-fine : (x : ℕ) → neighboursFine ps ns gs n x ≡ neighboursFine qs ms hs n x
+      unfolding neighboursFine
+      same-fine x =
+          by-test (allocated gs n x)
+          (λ e. rw (← same-allocated x, e, prev x e, next x (allocated-within gs n x e), same-names-back ns ms x (at qs x) (λ t f. next t (allocated-within gs n t f)), same-names-back ps qs x (at ms x) prev) refl)
+          (λ e. rw (← same-allocated x, e) refl)
+
+      same-all-fine : (k : ℕ) → allFine ps ns gs n k ≡ allFine qs ms hs n k
+      unfolding allFine
+      same-all-fine zero = refl
+      same-all-fine (suc k) = rw (same-fine (suc k), same-all-fine k) refl
+
+module _ (a b : Arena) (same : SameRead a b) where
+  same-counts-verdict : countsVerdict a ≡ countsVerdict b
+  same-counts-verdict =
+      same-counts (a .generation) (b .generation) (stackLength a) (same .generation) (a .next) (b .next) (same .next) (linkCount a) (root a)
+      ∙ ap (λ (h : List ℕ). countsOf (b .next) (b .generation) (getD h 0 0) (getD h 1 0) (getD h 2 0)) (same .header)
+
+  same-interlinks : interlinksFine a ≡ interlinksFine b
+  same-interlinks =
+      same-all-fine (a .generation) (b .generation) (stackLength a) (same .generation) (a .next) (b .next) (same .next) (a .prev) (b .prev) (same .prev) (stackLength a)
+      ∙ ap (λ (h : List ℕ). allFine (b .prev) (b .next) (b .generation) (getD h 0 0) (getD h 0 0)) (same .header)
+
+  same-shape : (limit : ℕ) → misshapen limit a ≡ misshapen limit b
+  unfolding misshapen
+  same-shape limit = rw (same .header, same .prev-length, same .next-length, same .generation-length, same .payload-length) refl
+
+pub verdict-reads-only : (limit : ℕ) (a b : Arena) → SameRead a b → verdict limit a ≡ verdict limit b
+unfolding verdict
+verdict-reads-only limit a b same =
+    rw (same-counts-verdict a b same, same-interlinks a b same, same-shape a b same limit, same .header, same .prev-length) refl
