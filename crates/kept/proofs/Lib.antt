@@ -6,3 +6,4 @@ pub mod Removal
 pub mod Runs
 pub mod CanonicalFreelist
 pub mod Drain
+pub mod EveryCallKeeps
