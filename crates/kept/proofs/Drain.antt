@@ -1,6 +1,6 @@
 -- Drain keeps an arena well formed: each of its slots is a link when it is removed, since no slot comes twice. Assumes nothing.
 use Prim.Native.Nat.{ℕ}
-use mathlib.Core.Path.{_≡_, refl, sym, ap, _∙_}
+use mathlib.Core.Path.{_≡_}
 use mathlib.Core.Bool.{true, false}
 use mathlib.Core.List.{List, [], _∷_}
 use Rattle.definitions.specs.Arena.{Arena, isLink}

@@ -1,10 +1,9 @@
 -- Every accepted call, single or inside a run, leaves an arena that passes the check: `accepted-keeps` for each call of Levels One and Two,
 -- `inside-a-run` for each command of a run. Each definition has its own theorem that it keeps an arena well formed, and the check passes exactly
 -- if the arena is well formed. Assumes nothing.
-use Prim.Native.Nat.{ℕ, _%_, _/_, _≤_}
-use mathlib.Core.Path.{_≡_, refl, sym, ap, _∙_}
-use mathlib.Core.Bool.{Bool, true, false, cond}
-use mathlib.Core.List.{List, [], _∷_, _++_}
+use Prim.Native.Nat.{ℕ}
+use mathlib.Core.Path.{_≡_}
+use mathlib.Core.List.{List}
 use borrow.Author.Tests.{eq-eqb}
 use Rattle.definitions.specs.Arena.{Arena}
 use Rattle.definitions.specs.Check.{verdict, WellFormed}

@@ -7,3 +7,4 @@ pub mod Runs
 pub mod CanonicalFreelist
 pub mod Drain
 pub mod EveryCallKeeps
+pub mod RunIsFold
