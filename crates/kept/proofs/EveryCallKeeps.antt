@@ -1,8 +1,9 @@
 -- Every accepted call, single or inside a run, leaves an arena that passes the check: `accepted-keeps` for each call of Levels One and Two,
--- `inside-a-run` for each command of a run. Each definition has its own theorem that it keeps an arena well formed, and the check passes exactly
+-- `every-call-keeps` for all calls, once the two compressions do, and `inside-a-run` for each command of a run. Each definition has its own theorem that it keeps an arena well formed, and the check passes exactly
 -- if the arena is well formed. Assumes nothing.
 use Prim.Native.Nat.{ℕ}
-use mathlib.Core.Path.{_≡_}
+use mathlib.Core.Path.{_≡_, refl, subst}
+use mathlib.Core.Bool.{Bool}
 use mathlib.Core.List.{List}
 use borrow.Author.Tests.{eq-eqb}
 use Rattle.definitions.specs.Arena.{Arena}
@@ -10,6 +11,7 @@ use Rattle.definitions.specs.Check.{verdict, WellFormed}
 use Rattle.definitions.specs.Read.{getLink, getLinkNoGen, areNeighbors}
 use Rattle.definitions.specs.Walk.{walkStart, walkStep}
 use Rattle.definitions.specs.Run.{Command, applied}
+use Rattle.definitions.specs.Compress.{compressWith, compressCanonical}
 use Rattle.definitions.specs.Calls.{
   Call,
   Check,
@@ -63,31 +65,48 @@ NoCompression (CompressWith reset) = ⊥
 NoCompression (CompressCanonical reset) = ⊥
 
 module _ (limit top : ℕ) where
-  call-keeps : (c : Call) → NoCompression c → (a : Arena) (l : List ℕ) → WellFormed limit a → WellFormed limit (accepted top c a l .arena)
-  unfolding accepted getLink getLinkNoGen areNeighbors walkStart walkStep
-  call-keeps Check no-compression a l ok = ok
-  call-keeps (GetLink p) no-compression a l ok = search either-keeps
-  call-keeps (GetLinkNoGen p) no-compression a l ok = search either-keeps
-  call-keeps (AreNeighbors p q) no-compression a l ok = ok
-  call-keeps (WalkStart p) no-compression a l ok = search either-keeps
-  call-keeps WalkStep no-compression a l ok = ok
-  call-keeps (Connect p q) no-compression a l ok = connect-keeps limit a ok p q l
-  call-keeps (BreakPrev p) no-compression a l ok = breakPrev-keeps limit a ok p l
-  call-keeps (BreakNext p) no-compression a l ok = breakNext-keeps limit a ok p l
-  call-keeps (ExchangeNext p q) no-compression a l ok = exchangeNext-keeps limit a ok p q l
-  call-keeps (Remove p) no-compression a l ok = remove-keeps limit top a ok p l
-  call-keeps (Drain p) no-compression a l ok = drain-keeps limit top a ok p l
-  call-keeps (SetGeneration g) no-compression a l ok = setGeneration-keeps limit a ok g l
-  call-keeps IncGeneration no-compression a l ok = incGeneration-keeps limit a ok top l
-  call-keeps CanonicalizeFreelist no-compression a l ok = canonicalizeFreelist-keeps limit a ok l
-  call-keeps (Run commands) no-compression a l ok = run-keeps limit top a ok commands l
-  call-keeps (CompressWith reset) no-compression a l ok = absurd no-compression
-  call-keeps (CompressCanonical reset) no-compression a l ok = absurd no-compression
+  -- what the two compressions must keep, of a call that may be one of them
+  abbrev CompressionsKeep : Call → Arena → List ℕ → Type 0
+  CompressionsKeep c a l =
+      ((reset : Bool) → c ≡ CompressWith reset → WellFormed limit (compressWith top reset a l .arena))
+      × ((reset : Bool) → c ≡ CompressCanonical reset → WellFormed limit (compressCanonical top reset a l .arena))
 
-  pub accepted-keeps : (c : Call) → NoCompression c → (a : Arena) (l : List ℕ) → verdict limit a ≡ 0 → verdict limit (replyTo limit top c a l .arena) ≡ 0
+  call-keeps : (c : Call) (a : Arena) (l : List ℕ) → CompressionsKeep c a l → WellFormed limit a → WellFormed limit (accepted top c a l .arena)
+  unfolding accepted getLink getLinkNoGen areNeighbors walkStart walkStep
+  call-keeps Check a l compressions ok = ok
+  call-keeps (GetLink p) a l compressions ok = search either-keeps
+  call-keeps (GetLinkNoGen p) a l compressions ok = search either-keeps
+  call-keeps (AreNeighbors p q) a l compressions ok = ok
+  call-keeps (WalkStart p) a l compressions ok = search either-keeps
+  call-keeps WalkStep a l compressions ok = ok
+  call-keeps (Connect p q) a l compressions ok = connect-keeps limit a ok p q l
+  call-keeps (BreakPrev p) a l compressions ok = breakPrev-keeps limit a ok p l
+  call-keeps (BreakNext p) a l compressions ok = breakNext-keeps limit a ok p l
+  call-keeps (ExchangeNext p q) a l compressions ok = exchangeNext-keeps limit a ok p q l
+  call-keeps (Remove p) a l compressions ok = remove-keeps limit top a ok p l
+  call-keeps (Drain p) a l compressions ok = drain-keeps limit top a ok p l
+  call-keeps (SetGeneration g) a l compressions ok = setGeneration-keeps limit a ok g l
+  call-keeps IncGeneration a l compressions ok = incGeneration-keeps limit a ok top l
+  call-keeps CanonicalizeFreelist a l compressions ok = canonicalizeFreelist-keeps limit a ok l
+  call-keeps (Run commands) a l compressions ok = run-keeps limit top a ok commands l
+  call-keeps (CompressWith reset) a l compressions ok = compressions .0 reset refl
+  call-keeps (CompressCanonical reset) a l compressions ok = compressions .1 reset refl
+
+  reply-keeps : (c : Call) (a : Arena) (l : List ℕ) → (WellFormed limit a → CompressionsKeep c a l) → verdict limit a ≡ 0 → verdict limit (replyTo limit top c a l .arena) ≡ 0
   unfolding replyTo
-  accepted-keeps c no-compression a l passes =
-      rw (eq-eqb (verdict limit a) 0 passes) (passes-if-well-formed limit _ (call-keeps c no-compression a l (well-formed-if-passes limit a passes)))
+  reply-keeps c a l compressions passes =
+      let ok = well-formed-if-passes limit a passes in
+      rw (eq-eqb (verdict limit a) 0 passes) (passes-if-well-formed limit _ (call-keeps c a l (compressions ok) ok))
+
+  -- every call of Levels One and Two
+  pub accepted-keeps : (c : Call) → NoCompression c → (a : Arena) (l : List ℕ) → verdict limit a ≡ 0 → verdict limit (replyTo limit top c a l .arena) ≡ 0
+  accepted-keeps c none a l = reply-keeps c a l (λ ok. (λ reset e. absurd (subst NoCompression e none), λ reset e. absurd (subst NoCompression e none)))
+
+  -- every call, once the two compressions keep an arena well formed
+  pub every-call-keeps : ((reset : Bool) (a : Arena) (l : List ℕ) → WellFormed limit a → WellFormed limit (compressWith top reset a l .arena))
+      → ((reset : Bool) (a : Arena) (l : List ℕ) → WellFormed limit a → WellFormed limit (compressCanonical top reset a l .arena))
+      → (c : Call) (a : Arena) (l : List ℕ) → verdict limit a ≡ 0 → verdict limit (replyTo limit top c a l .arena) ≡ 0
+  every-call-keeps with-keeps canonical-keeps c a l = reply-keeps c a l (λ ok. (λ reset e. with-keeps reset a l ok, λ reset e. canonical-keeps reset a l ok))
 
   -- after any commands of a run the arena passes the check
   pub inside-a-run : (a : Arena) → verdict limit a ≡ 0 → (cs : List Command) → verdict limit (applied top a cs) ≡ 0
