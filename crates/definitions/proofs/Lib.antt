@@ -10,3 +10,4 @@ pub mod Interlinks
 pub mod LinkCount
 pub mod Parts
 pub mod Relisted
+pub mod Steps
