@@ -14,6 +14,9 @@ allocated-slots-requires c κs = search needs
 returns : tie.Need-returns
 returns c = by-count _ _ _ _ _ _ _ (c .before .allocated-slots .ensures) (search tests depth 20)
 
+cast-free : tie.Need-cast-free
+cast-free c = search needs
+
 sub-free : tie.Need-sub-free
 sub-free c = omega (arith, links-and-free (c .before .before .before .before .args .generation .now) (c .before .before .before .before .args .n))
 
@@ -38,6 +41,7 @@ counts-spec =
     (tie.spec
     allocated-slots-requires
     returns
+    cast-free
     sub-free
     returns-2
     returns-3
