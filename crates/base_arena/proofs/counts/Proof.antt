@@ -18,7 +18,9 @@ cast-free : tie.Need-cast-free
 cast-free c = search needs
 
 sub-free : tie.Need-sub-free
-sub-free c = omega (arith, links-and-free (c .before .before .before .before .args .generation .now) (c .before .before .before .before .args .n))
+sub-free c =
+    let start = c .before .before .before .before .args in
+    omega (arith, links-and-free (start .generation .now) (start .n))
 
 returns-2 : tie.Need-returns-2
 returns-2 c = by-count _ _ _ _ _ _ _ (c .before .before .before .allocated-slots .ensures) (search tests depth 20)
