@@ -1,1 +1,3 @@
 pub mod Walked
+pub mod Along
+pub mod WalksChains
