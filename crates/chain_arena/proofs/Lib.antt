@@ -1,0 +1,2 @@
+pub mod Neighbours
+pub mod Verdict
