@@ -6,3 +6,4 @@ pub mod Again
 pub mod Exchange
 pub mod Carried
 pub mod LayChain
+pub mod LayChains
