@@ -7,3 +7,4 @@ pub mod Exchange
 pub mod Carried
 pub mod LayChain
 pub mod LayChains
+pub mod Equivalence
