@@ -7,3 +7,4 @@ pub mod Freelist
 pub mod Shaped
 pub mod Interlinks
 pub mod Parts
+pub mod Numbers

@@ -8,3 +8,7 @@ pub mod Carried
 pub mod LayChain
 pub mod LayChains
 pub mod Equivalence
+pub mod Accepted
+pub mod OneCompression
+pub mod SameChains
+pub mod Unmoved
