@@ -12,3 +12,5 @@ pub mod Accepted
 pub mod OneCompression
 pub mod SameChains
 pub mod Unmoved
+pub mod Kept
+pub mod Demand3
