@@ -1,10 +1,15 @@
 pub mod Tests
 pub mod Columns
 pub mod Slots
+pub mod Pointers
 pub mod Count
 pub mod Linked
 pub mod Freelist
 pub mod Shaped
 pub mod Interlinks
+pub mod Fields
+pub mod LinkCount
 pub mod Parts
+pub mod Relisted
+pub mod Steps
 pub mod Numbers

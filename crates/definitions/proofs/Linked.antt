@@ -1,11 +1,10 @@
 -- Laws of `Linked`, lists of slots in which each next names the following member. Assumes nothing.
-use Prim.Native.Nat.{ℕ, zero, suc, _+_, _≤_, _<_}
+use Prim.Native.Nat.{ℕ}
 use mathlib.Core.Path.{_≡_, refl, sym, ap, _∙_}
 use mathlib.Core.Logic.{_⊎_, inl, inr}
-use mathlib.Core.List.{List, [], _∷_, _++_, cons≢nil}
+use mathlib.Core.List.{List, [], _∷_, _++_}
 use native.Mathlib.Omega.{arith}
 use native.Mathlib.Decide.{ℕ-discrete}
-use lib.ListN.{length}
 use Rattle.definitions.specs.Columns.{count, firstOr, lastOr}
 use Rattle.definitions.specs.Chains.{Linked}
 use Rattle.definitions.proofs.Count.{In, in-here, in-there, in-cases, not-in-nil, count-first, count-grows}
@@ -94,3 +93,9 @@ unfolding Linked
 linked-agree next same [] z e p = tt
 linked-agree next same (x ∷ xs) z e p =
     (sym (e x (in-here x xs)) ∙ p .0, linked-agree next same xs z (λ s i. e s (in-there s x xs i)) (p .1))
+
+-- a slot in front of a list whose last names itself: it names the first, or itself where there is none
+pub linked-in-front : (next : ℕ → ℕ) (s : ℕ) (xs : List ℕ) → next s ≡ firstOr s xs → Linked next xs (lastOr 0 xs) → Linked next (s ∷ xs) (lastOr 0 (s ∷ xs))
+unfolding Linked firstOr lastOr
+linked-in-front next s [] e p = (e, tt)
+linked-in-front next s (x ∷ xs) e p = (e, p)

@@ -2,16 +2,15 @@
 -- are not read. Generation 0 marks a free slot; its next then holds the freelist pointer and its other words are not read.'
 -- Two arenas that agree on those words have the same links and free slots; the freelist walk reads next and generation of slots that it has
 -- found to be in the stack; and rule 11 reads prev and next of links only. Assumes nothing.
-use Prim.Native.Nat.{ℕ, zero, suc, _+_, _≤_, _<_}
+use Prim.Native.Nat.{ℕ, zero, suc, _+_, _≤_}
 use mathlib.Core.Path.{_≡_, refl, sym, ap, _∙_}
-use mathlib.Core.Bool.{Bool, true, false, cond, not, _&&_, _||_}
+use mathlib.Core.Bool.{true, not}
 use mathlib.Core.List.{List}
 use native.Mathlib.Omega.{arith}
 use native.Mathlib.Decide.{decLe}
-use lib.ListN.{length, getD}
-use lib.Dec.{eqb, ltb, leb}
+use lib.ListN.{getD}
 use borrow.Author.Tests.{lt-ltb}
-use Rattle.definitions.specs.Columns.{at, keep, slotsFrom}
+use Rattle.definitions.specs.Columns.{at, slotsFrom}
 use Rattle.definitions.specs.Arena.{Arena, stackLength, linkCount, root, allocated, linkSlots, freeSlots}
 use Rattle.definitions.specs.Check.{misshapen, freelistWalk, namesBack, neighboursFine, allFine, countsOf, verdict, SameRead}
 use Rattle.definitions.proofs.Tests.{by-test}

@@ -1,0 +1,4 @@
+pub mod Settled
+pub mod Rising
+pub mod Threaded
+pub mod Canonicalized

@@ -1,0 +1,66 @@
+-- Laws of the links up to a slot: what one slot more adds, and which is the highest. Assumes nothing.
+use Prim.Native.Nat.{ℕ, zero, suc, _+_, _-_, _≤_, _<_}
+use mathlib.Core.Path.{_≡_, refl, sym, ap, _∙_}
+use mathlib.Core.Bool.{Bool, true, false, cond, not, _&&_}
+use mathlib.Core.List.{List, [], _∷_, _++_, append-nil}
+use native.Mathlib.Omega.{arith}
+use native.Mathlib.Numerals.{one-add, sub-one}
+use native.Mathlib.Decide.{ℕ-discrete}
+use lib.Dec.{leb}
+use borrow.Author.Tests.{le-leb}
+use Rattle.definitions.specs.Columns.{at, lastOr, slotsFrom, keep}
+use Rattle.definitions.specs.Arena.{allocated, linkSlots}
+use Rattle.definitions.proofs.Slots.{slots-snoc, keep-append, allocated-yes, allocated-free}
+use Rattle.definitions.proofs.Count.{keep-agree, in-slots}
+
+-- up to the shorter of two stack lengths a slot is allocated in both or in neither
+allocated-agree : (gs : List ℕ) (n m s : ℕ) → s ≤ n → s ≤ m → allocated gs n s ≡ allocated gs m s
+unfolding allocated
+allocated-agree gs n m s h l = rw (le-leb s n h, le-leb s m l) refl
+
+module _ (gs : List ℕ) (k : ℕ) where
+  keep-below : keep (allocated gs (suc k)) (slotsFrom 1 k) ≡ linkSlots gs k
+  unfolding linkSlots
+  keep-below = keep-agree _ _ (slotsFrom 1 k) (λ x h. let within = in-slots x 1 k h in allocated-agree gs (suc k) k x (omega arith) (omega arith))
+
+  last-slot : slotsFrom 1 (suc k) ≡ slotsFrom 1 k ++ (suc k ∷ [])
+  last-slot = slots-snoc 1 k ∙ ap (λ (x : ℕ). slotsFrom 1 k ++ (x ∷ [])) (one-add k)
+
+  -- one slot more is a link or is not
+  pub links-more : (at gs (suc k) ≡ 0 → ⊥) → linkSlots gs (suc k) ≡ linkSlots gs k ++ (suc k ∷ [])
+  unfolding linkSlots keep
+  links-more g = rw (last-slot, keep-append, keep-below, allocated-yes gs (suc k) (suc k) (omega arith) g) refl
+
+  pub links-same : at gs (suc k) ≡ 0 → linkSlots gs (suc k) ≡ linkSlots gs k
+  unfolding linkSlots keep
+  links-same g = rw (last-slot, keep-append, keep-below, allocated-free gs (suc k) (suc k) g) (append-nil _)
+
+pub last-of-more : (z x : ℕ) (xs : List ℕ) → lastOr z (xs ++ (x ∷ [])) ≡ x
+unfolding lastOr
+last-of-more z x [] = refl
+last-of-more z x (y ∷ xs) = last-of-more y x xs
+
+-- the highest link up to slot m is m, if that is a link, and else the highest link below
+pub highest-here : (gs : List ℕ) (m : ℕ) → (m ≡ 0 → ⊥) → (at gs m ≡ 0 → ⊥) → m ≡ lastOr 0 (linkSlots gs m)
+highest-here gs zero h g = absurd (h refl)
+highest-here gs (suc k) h g = rw (links-more gs k g) (sym (last-of-more 0 (suc k) (linkSlots gs k)))
+
+pub highest-below : (gs : List ℕ) (m : ℕ) → (m ≡ 0 → ⊥) → at gs m ≡ 0 → lastOr 0 (linkSlots gs (m - 1)) ≡ lastOr 0 (linkSlots gs m)
+highest-below gs zero h g = absurd (h refl)
+highest-below gs (suc k) h g = rw (sub-one (suc k), links-same gs k g) refl
+
+pub highest-none : (gs : List ℕ) (m : ℕ) → m ≡ 0 → m ≡ lastOr 0 (linkSlots gs m)
+unfolding linkSlots slotsFrom keep lastOr
+highest-none gs m z = rw z refl
+
+last-within : (gs : List ℕ) (n : ℕ) → lastOr 0 (linkSlots gs n) ≤ n
+last-within gs zero = omega (arith, highest-none gs 0 refl)
+last-within gs (suc k) =
+    go (ℕ-discrete (at gs (suc k)) 0) (last-within gs k)
+  where
+    go : Dec (at gs (suc k) ≡ 0) → lastOr 0 (linkSlots gs k) ≤ k → lastOr 0 (linkSlots gs (suc k)) ≤ suc k
+    go (yes z) h = rw (links-same gs k z) (omega arith)
+    go (no d) h = omega (arith, highest-here gs (suc k) (omega arith) d)
+
+pub highest-within : (gs : List ℕ) (n m : ℕ) → m ≡ lastOr 0 (linkSlots gs n) → m ≤ n
+highest-within gs n m e = omega (arith, last-within gs n)

@@ -1,0 +1,148 @@
+// Generations and the freelist of the arena under the chains (arena/base_arena.rs), in columns that the caller lends.
+ghost use mathlib.Core.Path.{_≡_};
+ghost use mathlib.Core.List.{List, []};
+ghost use Prim.Native.Nat.{ℕ, _≤_};
+ghost use lib.ListN.{length};
+ghost use Rattle.definitions.specs.Columns.{firstOr, lastOr};
+ghost use Rattle.definitions.specs.Arena.{arena, capacityLimit, largestGeneration, headerWords, linkSlots, freeSlots};
+ghost use Rattle.definitions.specs.Check.{verdict};
+ghost use Rattle.definitions.specs.Reply.{reply};
+ghost use Rattle.definitions.specs.Edit.{setGeneration, incGeneration};
+ghost use Rattle.definitions.specs.Remove.{threaded, canonicalizeFreelist};
+ghost use Rattle.ptr.specs.Extra.{invalidationNumber};
+ghost use Rattle.base_freelist.specs.Answers.{generationSetNumber};
+ghost use Rattle.base_freelist.specs.Popped.{popped};
+use ptr::Gen;
+use ptr::InvalidationOption;
+
+// What became of a generation that was to be set.
+pub enum GenerationSet {
+    Done,
+    BelowTwo,
+}
+
+// Makes g the current generation of the arena with this header: '`set_generation` accepts 1 in the crate; here it refuses'.
+pub fn set_generation(header: &mut [u32], g: Gen) -> GenerationSet
+    requires { ⌜ length (now header) ≡ headerWords ⌝ }
+    ensures { λ r. ⌜ ((ps ns gs vs : List ℕ) → reply (generationSetNumber r) [] (arena ps ns gs vs (now (header .exit))) []
+        ≡ setGeneration (arena ps ns gs vs (now (header .entry))) (g .0) []) ⌝ }
+{
+    let word = g.0;
+    if word < 2 {
+        return GenerationSet::BelowTwo;
+    }
+    header[3] = word;
+    GenerationSet::Done
+}
+
+// Raises the current generation of the arena with this header.
+pub fn inc_generation(header: &mut [u32]) -> InvalidationOption
+    requires { ⌜ length (now header) ≡ headerWords ⌝ }
+    ensures { λ r. ⌜ ((ps ns gs vs : List ℕ) → reply (invalidationNumber r) [] (arena ps ns gs vs (now (header .exit))) []
+        ≡ incGeneration largestGeneration (arena ps ns gs vs (now (header .entry))) []) ⌝ }
+{
+    let raised = Gen(header[3]).generational_inc();
+    let next = raised.generation;
+    header[3] = next.0;
+    InvalidationOption::of(raised.overflow)
+}
+
+// The highest link of a stack of n slots, 0 where it has none: there the stack ends once its free end slots are popped.
+pub fn highest_link(generation: &[u32], n: usize) -> usize
+    requires { ⌜ n ≤ length (now generation) ⌝ }
+    ensures { λ r. ⌜ r ≡ lastOr 0 (linkSlots (now (generation .entry)) n) ⌝ }
+{
+    let mut m = n;
+    while m != 0 {
+        if generation[m - 1] != 0 {
+            return m;
+        }
+        m -= 1;
+    }
+    m
+}
+
+// Puts 0 into the slots of a link column past slot m, up to slot n.
+pub fn clear_links(column: &mut [u16], m: usize, n: usize)
+    requires { ⌜ (m ≤ n) × (n ≤ length (now column)) ⌝ }
+    ensures { λ _. ⌜ now (column .exit) ≡ popped m n (now (column .entry)) ⌝ }
+{
+    let mut i = m;
+    while i < n {
+        column[i] = 0;
+        i += 1;
+    }
+}
+
+// Puts 0 into the slots of a generation or payload column past slot m, up to slot n.
+pub fn clear_words(column: &mut [u32], m: usize, n: usize)
+    requires { ⌜ (m ≤ n) × (n ≤ length (now column)) ⌝ }
+    ensures { λ _. ⌜ now (column .exit) ≡ popped m n (now (column .entry)) ⌝ }
+{
+    let mut i = m;
+    while i < n {
+        column[i] = 0;
+        i += 1;
+    }
+}
+
+// Pops the slots past slot m of a stack of n: 'a popped slot gets 0 in all four columns'.
+pub fn pop_slots(
+    prev: &mut [u16],
+    next: &mut [u16],
+    generation: &mut [u32],
+    payload: &mut [u32],
+    m: usize,
+    n: usize,
+)
+    requires { ⌜ (m ≤ n) × (n ≤ length (now prev)) × (n ≤ length (now next)) × (n ≤ length (now generation)) × (n ≤ length (now payload)) ⌝ }
+    ensures { λ _. ⌜ (now (prev .exit) ≡ popped m n (now (prev .entry))) × (now (next .exit) ≡ popped m n (now (next .entry)))
+        × (now (generation .exit) ≡ popped m n (now (generation .entry))) × (now (payload .exit) ≡ popped m n (now (payload .entry))) ⌝ }
+{
+    clear_links(prev, m, n);
+    clear_links(next, m, n);
+    clear_words(generation, m, n);
+    clear_words(payload, m, n);
+}
+
+// Lists the free slots of a stack of m slots in rising order, the highest pointing at itself, and answers the lowest: the root, 0 for none.
+pub fn relist(next: &mut [u16], generation: &[u32], m: usize) -> u16
+    requires { ⌜ (m ≤ length (now next)) × (m ≤ length (now generation)) × (m ≤ 65535) ⌝ }
+    ensures { λ r. ⌜ (r ≡ firstOr 0 (freeSlots (now (generation .entry)) m)) × (now (next .exit) ≡ threaded (now (next .entry)) (freeSlots (now (generation .entry)) m)) ⌝ }
+{
+    let mut earliest_free: u16 = 0;
+    let mut i = m;
+    while i != 0 {
+        if generation[i - 1] == 0 {
+            let slot = i as u16;
+            if earliest_free == 0 {
+                next[i - 1] = slot;
+            } else {
+                next[i - 1] = earliest_free;
+            }
+            earliest_free = slot;
+        }
+        i -= 1;
+    }
+    earliest_free
+}
+
+// Pops the free end slots and lists the other free slots anew, on an arena that passed the check.
+pub fn canonicalize_freelist(
+    prev: &mut [u16],
+    next: &mut [u16],
+    generation: &mut [u32],
+    payload: &mut [u32],
+    header: &mut [u32],
+)
+    requires { ⌜ verdict capacityLimit (arena (now prev) (now next) (now generation) (now payload) (now header)) ≡ 0 ⌝ }
+    ensures { λ _. ⌜ reply 0 [] (arena (now (prev .exit)) (now (next .exit)) (now (generation .exit)) (now (payload .exit)) (now (header .exit))) []
+        ≡ canonicalizeFreelist (arena (now (prev .entry)) (now (next .entry)) (now (generation .entry)) (now (payload .entry)) (now (header .entry))) [] ⌝ }
+{
+    let n = header[0] as usize;
+    let m = highest_link(&*generation, n);
+    let root = relist(&mut *next, &*generation, m);
+    pop_slots(prev, next, generation, payload, m, n);
+    header[2] = root as u32;
+    header[0] = m as u32;
+}

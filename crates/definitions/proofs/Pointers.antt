@@ -1,0 +1,13 @@
+-- Laws of stale pointers. Assumes nothing.
+use mathlib.Core.Path.{_≡_}
+use mathlib.Core.Bool.{true, false}
+use borrow.Author.Tests.{eqb-false, ltb-false}
+use Rattle.definitions.specs.Arena.{Arena, isLink}
+use Rattle.definitions.specs.Read.{Pointer, stale}
+use Rattle.definitions.proofs.Tests.{neither-first, neither-second}
+use Rattle.definitions.proofs.Slots.{allocated-yes}
+
+-- a pointer that is not stale points to a link
+pub fresh-link : (a : Arena) (p : Pointer) → stale a p ≡ false → isLink a (p .slot) ≡ true
+unfolding stale
+fresh-link a p e = search (allocated-yes, ltb-false, eqb-false, neither-first, neither-second)

@@ -1,0 +1,1 @@
+// Theorems over the definitions: what every call keeps. There is no code here.
