@@ -1,27 +1,25 @@
 -- What an exchange of two slots keeps. The slots b as they are now hold the links of the arena a that is laid out, w says who is in each slot, and through w
 -- every word is the old one. With the transposition σ of i and t, after the exchange prev(σ s) = σ(prev s), next(σ s) = σ(next s) and who(σ s) = who s; so
 -- all of it holds again. Neighbours of each other, a free occupant, i = t and a single closed link need no case of their own. Assumes nothing.
-use Prim.Native.Nat.{ℕ, zero, suc, _+_, _≤_, _<_}
+use Prim.Native.Nat.{ℕ, zero, suc, _≤_}
 use mathlib.Core.Path.{_≡_, refl, sym, ap, _∙_}
 use mathlib.Core.Logic.{_≢_}
-use mathlib.Core.Bool.{Bool, true, false, not, _&&_}
-use mathlib.Core.List.{List, [], _∷_}
+use mathlib.Core.List.{List}
 use native.Mathlib.Omega.{arith}
 use native.Mathlib.Decide.{ℕ-discrete}
-use lib.ListN.{length, getD, drop}
-use lib.Dec.{eqb, leb}
+use lib.ListN.{length, getD}
 use borrow.Author.Tests.{le-leb}
 use Rattle.definitions.specs.Columns.{at, count, slotsFrom}
 use Rattle.definitions.specs.Arena.{Arena, stackLength, allocated, isLink}
 use Rattle.definitions.specs.Compress.{place, startOf, exchanged, exchangeWords, exchangeLinks, exchangeSlots}
 use Rattle.definitions.proofs.Columns.{at-zero}
 use Rattle.definitions.proofs.Slots.{length-slots}
-use Rattle.definitions.proofs.Count.{In, Once, in-slots, slots-once}
+use Rattle.definitions.proofs.Count.{Once, in-slots, slots-once}
 use Rattle.definitions.proofs.Parts.{in-at, at-own}
-use Rattle.chains.proofs.Links.{Link, DoublyLinked, link-some, link-within, link-nonzero}
+use Rattle.chains.proofs.Links.{Link, DoublyLinked, link-some, link-within}
 use Rattle.chains.proofs.Find.{start-stop, start-round, start-on}
 use Rattle.renaming.proofs.Place.{place-at}
-use Rattle.demand3.proofs.Exchange.{exchanged-twice, exchanged-within, exchanged-some, length-exchange, length-exchange-links, exchange-reads, exchange-links-reads, exchange-count}
+use Rattle.demand3.proofs.Exchange.{exchanged-twice, exchanged-within, exchanged-some, length-exchange, length-exchange-links, exchange-reads, exchange-links-reads}
 
 -- the four columns are as long as the stack at least
 pub record Room (a : Arena) : Type 0 where

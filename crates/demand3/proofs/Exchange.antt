@@ -3,7 +3,6 @@
 use Prim.Native.Nat.{ℕ, zero, suc, _+_, _≤_, _<_}
 use mathlib.Core.Path.{_≡_, refl, sym, ap, subst, _∙_}
 use mathlib.Core.Logic.{_≢_}
-use mathlib.Core.Bool.{cond}
 use mathlib.Core.List.{List, [], _∷_, _++_, map}
 use native.Mathlib.Omega.{arith}
 use native.Mathlib.Decide.{ℕ-discrete, decLe}
@@ -11,7 +10,7 @@ use lib.ListN.{length, take, drop, set, length-append, length-map, length-take, 
 use borrow.Author.Tests.{eq-eqb, ne-eqb}
 use Rattle.definitions.specs.Columns.{at, put, count}
 use Rattle.definitions.specs.Compress.{exchanged, exchangeWords, exchangeLinks}
-use Rattle.definitions.proofs.Columns.{at-zero, length-put, at-put-same, at-put-other}
+use Rattle.definitions.proofs.Columns.{length-put, at-put-same, at-put-other}
 use Rattle.definitions.proofs.Slots.{count-append}
 use Rattle.definitions.proofs.Count.{In, in-here, in-there, count-first, count-grows}
 use Rattle.definitions.proofs.Parts.{at-map, at-take, at-append-left, in-at}

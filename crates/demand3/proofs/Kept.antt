@@ -5,7 +5,6 @@ use mathlib.Core.List.{List}
 use native.Mathlib.Decide.{ℕ-discrete}
 use lib.ListN.{length}
 use Rattle.definitions.specs.Arena.{Arena, capacity}
-use Rattle.definitions.specs.Chains.{Renaming}
 use Rattle.definitions.specs.Check.{WellFormed}
 use Rattle.definitions.specs.Compress.{compressGeneration, compressCanonical}
 use Rattle.chains.proofs.Links.{well-formed-linked}

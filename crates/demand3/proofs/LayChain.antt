@@ -3,10 +3,10 @@
 use Prim.Native.Nat.{ℕ, zero, suc, _+_, _≤_, _<_}
 use mathlib.Core.Path.{_≡_, refl, sym, ap, subst, _∙_}
 use mathlib.Core.Logic.{_≢_, _⊎_, inl, inr}
-use mathlib.Core.Bool.{Bool, true, false, _||_}
+use mathlib.Core.Bool.{true, false, _||_}
 use mathlib.Core.List.{List, [], _∷_, _++_, append-assoc}
 use native.Mathlib.Omega.{arith}
-use native.Mathlib.Decide.{ℕ-discrete, decLe}
+use native.Mathlib.Decide.{decLe}
 use lib.ListN.{length, take, drop, length-append}
 use lib.Dec.{eqb}
 use borrow.Author.Tests.{eq-eqb, ne-eqb}
@@ -17,7 +17,7 @@ use Rattle.definitions.specs.Compress.{Laying, exchanged, exchangeWords, putAtI
 use Rattle.definitions.proofs.Tests.{the-first, the-second, neither}
 use Rattle.definitions.proofs.Columns.{at-zero}
 use Rattle.definitions.proofs.Slots.{count-here}
-use Rattle.definitions.proofs.Count.{In, in-here, in-there, count-grows}
+use Rattle.definitions.proofs.Count.{In, in-here, in-there}
 use Rattle.definitions.proofs.Parts.{at-past}
 use Rattle.chains.proofs.Links.{Link, AllLinks, link-nonzero}
 use Rattle.demand3.proofs.Bring.{bring, brings, brings-nil, brings-cons, brings-rest}

@@ -3,15 +3,14 @@
 use Prim.Native.Nat.{ℕ, zero, suc, _+_, _-_, _≤_, _<_}
 use mathlib.Core.Path.{_≡_, refl, sym, ap, subst, _∙_}
 use mathlib.Core.Logic.{_≢_, _⊎_, inl, inr}
-use mathlib.Core.Bool.{Bool, true, false}
-use mathlib.Core.List.{List, [], _∷_, _++_, map, append-nil, flatten}
+use mathlib.Core.Bool.{true, false}
+use mathlib.Core.List.{List, [], _∷_, map, append-nil, flatten}
 use native.Mathlib.Omega.{arith}
 use native.Mathlib.Nat.{add-zero}
 use native.Mathlib.Decide.{ℕ-discrete}
 use lib.ListN.{length, take, drop, length-drop}
-use lib.Dec.{eqb}
 use borrow.Author.Tests.{eq-eqb, ne-eqb}
-use Rattle.definitions.specs.Columns.{at, count, firstOr, slotsFrom, keep}
+use Rattle.definitions.specs.Columns.{at, firstOr, slotsFrom, keep}
 use Rattle.definitions.specs.Arena.{Arena, stackLength, isLink}
 use Rattle.definitions.specs.Chains.{Linked, Kind, opened, closed, IsChain}
 use Rattle.definitions.specs.Compress.{Laying, lowestFrom, startOf, layChain, layChains, laidOut}

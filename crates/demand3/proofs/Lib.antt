@@ -13,4 +13,5 @@ pub mod OneCompression
 pub mod SameChains
 pub mod Unmoved
 pub mod Kept
+pub mod Computed
 pub mod Demand3
