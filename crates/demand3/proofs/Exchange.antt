@@ -145,7 +145,8 @@ exchange-brings (suc k) (x ∷ r) (suc (suc m)) o h l e c =
 pub count-parts : (x k : ℕ) (w : List ℕ) → count x w ≡ count x (take k w) + count x (drop k w)
 count-parts x k w = ap (count x) (sym (take-append-drop k w)) ∙ count-append x (take k w) (drop k w)
 
-in-drop : (k : ℕ) (w : List ℕ) (t : ℕ) → k < t → t ≤ length w → In (at w t) (drop k w)
+-- who is in a slot after k waits
+pub in-drop : (k : ℕ) (w : List ℕ) (t : ℕ) → k < t → t ≤ length w → In (at w t) (drop k w)
 unfolding at
 in-drop k [] t h l = absurd (omega arith)
 in-drop zero (x ∷ w) t h l = in-at (x ∷ w) t h l

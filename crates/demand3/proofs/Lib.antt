@@ -7,6 +7,8 @@ pub mod Exchange
 pub mod Carried
 pub mod LayChain
 pub mod LayChains
+pub mod Search
+pub mod Loops
 pub mod Equivalence
 pub mod Accepted
 pub mod OneCompression
