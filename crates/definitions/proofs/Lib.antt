@@ -12,3 +12,4 @@ pub mod LinkCount
 pub mod Parts
 pub mod Relisted
 pub mod Steps
+pub mod Numbers
