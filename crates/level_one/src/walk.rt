@@ -128,15 +128,15 @@ pub extern "C" fn chain_arena_walk_step(
         max_advances: left,
     };
     let advanced = walk.advance(prev, next, generation, payload, header);
-    let state = advanced.state;
+    let after = advanced.state;
     StepResult {
         number: 0,
         broken: 0,
         slot: advanced.slot,
         generation: advanced.generation,
-        start: state.init,
-        position: state.ptr,
-        direction: state.switch,
-        left: state.max_advances,
+        start: after.init,
+        position: after.ptr,
+        direction: after.switch,
+        left: after.max_advances,
     }
 }
