@@ -54,3 +54,20 @@ module _ (test : ℕ → Bool) where
           let later = ih (omega arith) (omega arith) in
           let before : x - s ≡ suc (x - suc s) = omega arith in
           rw before (by-test (test s) (λ t. rw t (place-there s x (keep test (slotsFrom (suc s) k)) d (λ z. omega (arith, later)) ∙ ap suc later)) (λ t. rw t later))
+
+-- in a run, a slot's place is how far it is from the first; before the run there is none
+pub place-before : (x s k : ℕ) → x < s → place (slotsFrom s k) x ≡ 0
+unfolding slotsFrom place
+place-before x s zero h = refl
+place-before x s (suc k) h = place-nowhere s x (slotsFrom (suc s) k) (λ e. omega arith) (place-before x (suc s) k (omega arith))
+
+pub place-run : (x s k : ℕ) → s ≤ x → x < s + k → place (slotsFrom s k) x ≡ suc (x - s)
+unfolding slotsFrom
+place-run x s zero a b = absurd (omega arith)
+place-run x s (suc k) a b = go (ℕ-discrete s x) (λ c d. place-run x (suc s) k c d)
+  where
+    go : Dec (s ≡ x) → (suc s ≤ x → x < suc s + k → place (slotsFrom (suc s) k) x ≡ suc (x - suc s)) → place (slotsFrom s (suc k)) x ≡ suc (x - s)
+    go (yes q) ih = rw (q, sub-self x) (place-here x (slotsFrom (suc x) k))
+    go (no d) ih =
+        let later = ih (omega arith) (omega arith) in
+        place-there s x (slotsFrom (suc s) k) d (λ z. omega (arith, later)) ∙ (ap suc later ∙ omega arith)

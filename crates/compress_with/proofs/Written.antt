@@ -47,3 +47,9 @@ module _ (ws old : List ℕ) where
 pub written-front : (ws old : List ℕ) (i : ℕ) → i < length ws → getD (written ws old) i 0 ≡ getD ws i 0
 unfolding written
 written-front ws old i h = List·getD-append ws _ 0 i h
+
+-- the words past those at the front
+pub written-rest : (ws old : List ℕ) (n : ℕ) → length ws ≤ n → drop n (written ws old) ≡ drop n old
+written-rest ws old n h =
+    let e : length ws + (n - length ws) ≡ n = omega arith in
+    rw (← e) (behind ws old (n - length ws))
