@@ -3,7 +3,7 @@
 -- so it is no longer than the free slots, and as it is no shorter it holds each of them. Assumes nothing.
 use Prim.Native.Nat.{ℕ, zero, suc, _+_, _≤_, _<_}
 use mathlib.Core.Path.{_≡_, refl, sym, ap, _∙_}
-use mathlib.Core.Logic.{_⊎_, inl, inr}
+use mathlib.Core.Logic.{_⊎_, inl, inr, ⊎-elim}
 use mathlib.Core.Bool.{cond}
 use mathlib.Core.List.{List, [], _∷_, _++_}
 use native.Mathlib.Omega.{arith}
@@ -155,9 +155,12 @@ root-or-none s free walked e =
     (λ z. by-test (eqb free 0) (λ f. inl (eqb-true s 0 z, eqb-true free 0 f)) (λ f. absurd (omega (arith, rw (z, f) at e))))
     (λ z. by-test (eqb free 0) (λ f. absurd (omega (arith, rw (z, f) at e))) (λ f. inr (rw (z, f) at e)))
 
-counts-parts : (ns gs : List ℕ) (n m s : ℕ) → countsOf ns gs n m s ≡ 0 → (m ≡ length (linkSlots gs n)) × (((s ≡ 0) × (length (freeSlots gs n) ≡ 0)) ⊎ (freelistWalk ns gs n (n + 2) s 0 ≡ 0))
+-- of 4 to 10 that do not refuse: the link count, and no root and no free slot or a walk of some number of visits
+counts-parts : (ns gs : List ℕ) (n m s : ℕ) → countsOf ns gs n m s ≡ 0 → (m ≡ length (linkSlots gs n)) × (((s ≡ 0) × (length (freeSlots gs n) ≡ 0)) ⊎ ((left : ℕ) × (freelistWalk ns gs n left s 0 ≡ 0)))
 unfolding countsOf
-counts-parts ns gs n m s e = let four = pass _ _ _ tt e in (eqb-true _ _ (not-false _ (four .0)), root-or-none s _ _ (four .1))
+counts-parts ns gs n m s e =
+    let four = pass _ _ _ tt e in
+    (eqb-true _ _ (not-false _ (four .0)), ⊎-elim inl (λ walked. inr (_, walked)) (root-or-none s _ _ (four .1)))
 
 module _ (a : Arena) where
   abbrev free : List ℕ
@@ -199,7 +202,7 @@ module _ (a : Arena) where
   freelist-of-counts e =
       elim (counts-parts (a .next) (a .generation) (stackLength a) (linkCount a) (root a) e .1) [
         | inl h ↦ ([], no-slot-is-free (h .0) (h .1))
-        | inr walked ↦ (let v = visits-of-walk _ _ _ _ (root a) 0 walked in (root a ∷ v .0, freelist-of-visits (v .0) (v .1)))
+        | inr walked ↦ (let v = visits-of-walk _ _ _ (walked .0) (root a) 0 (walked .1) in (root a ∷ v .0, freelist-of-visits (v .0) (v .1)))
       ]
 
   pub counts-of-freelist : linkCount a ≡ length (linkSlots (a .generation) (stackLength a)) → (fs : List ℕ) → Freelist a fs → 0 ≡ countsVerdict a

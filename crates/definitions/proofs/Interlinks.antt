@@ -8,9 +8,11 @@ use native.Mathlib.Decide.{ℕ-discrete}
 use lib.Dec.{eqb}
 use borrow.Author.Tests.{eq-eqb, ne-eqb, eqb-true, eqb-false}
 use Rattle.definitions.specs.Columns.{at}
-use Rattle.definitions.specs.Arena.{allocated}
-use Rattle.definitions.specs.Check.{namesBack, neighboursFine, allFine}
+use Rattle.definitions.specs.Arena.{Arena, stackLength, allocated, isLink}
+use Rattle.definitions.specs.Check.{namesBack, neighboursFine, allFine, Neighbour}
 use Rattle.definitions.proofs.Tests.{by-test, both, both-first, both-second, not-first, not-second, the-first, the-second}
+use Rattle.definitions.proofs.Slots.{allocated-within, allocated-some}
+use Rattle.definitions.proofs.Shaped.{interlinksFine}
 
 -- a neighbour that is there is a link, and names x back
 module _ (back gs : List ℕ) (n x s : ℕ) where
@@ -61,3 +63,15 @@ module _ (ps ns gs : List ℕ) (n : ℕ) where
 
   pub each-fine : (k : ℕ) → allFine ps ns gs n k ≡ true → (x : ℕ) → 0 < x → x ≤ k → fine x ≡ true
   each-fine k e x p h = by-test (fine x) (λ q. q) (λ q. absurd (true≢false (sym e ∙ not-all-fine k x p h q)))
+
+-- rule 11 refuses nothing in an arena exactly if both neighbours of each link are links that name it back
+module _ (a : Arena) where
+  pub neighbours-if-fine : interlinksFine a ≡ true → (x : ℕ) → isLink a x ≡ true → (Neighbour a (a .next) x (at (a .prev) x)) × (Neighbour a (a .prev) x (at (a .next) x))
+  neighbours-if-fine e x l =
+      let fine = each-fine _ _ _ _ (stackLength a) e x (allocated-some _ _ x l) (allocated-within _ _ x l) in
+      let sides = fine-parts _ _ _ _ x fine l in
+      (names-back _ _ _ x _ (sides .0), names-back _ _ _ x _ (sides .1))
+
+  pub fine-if-neighbours : ((x : ℕ) → isLink a x ≡ true → Neighbour a (a .next) x (at (a .prev) x)) → ((x : ℕ) → isLink a x ≡ true → Neighbour a (a .prev) x (at (a .next) x)) → interlinksFine a ≡ true
+  fine-if-neighbours prev next =
+      all-fine _ _ _ _ (stackLength a) (λ x p h. by-test (isLink a x) (λ l. fine-link _ _ _ _ x (does-name-back _ _ _ x _ (prev x l)) (does-name-back _ _ _ x _ (next x l))) (λ l. fine-free _ _ _ _ x l))

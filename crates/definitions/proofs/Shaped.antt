@@ -4,7 +4,7 @@ use mathlib.Core.Path.{_≡_, refl, sym, _∙_}
 use mathlib.Core.Bool.{Bool, true, false, cond, not, _||_}
 use native.Mathlib.Omega.{arith}
 use lib.ListN.{length}
-use lib.Dec.{eqb}
+use lib.Dec.{eqb, ltb}
 use borrow.Author.Tests.{ltb-false, eqb-true, not-false}
 use Rattle.definitions.specs.Arena.{Arena, capacity, headerWords, stackLength, linkCount, root, current}
 use Rattle.definitions.specs.Check.{misshapen, countsOf, allFine, verdict}
@@ -37,33 +37,31 @@ last k true z e = refl
 last k false z e = absurd (omega (arith, rw z at e))
 
 module _ (limit : ℕ) (a : Arena) where
-  -- refusals 1, 2 and 3 did not come
-  pub shape-facts : misshapen limit a ≡ false → 2 ≤ current a → linkCount a ≤ capacity a → stackLength a ≤ capacity a → Shaped limit a
+  -- refusals 1, 2 and 3 did not come, whatever is tested after them
+  pub first-three : (rest : ℕ) → cond (misshapen limit a) 1 (cond (ltb (current a) 2) 2 (cond (ltb (capacity a) (linkCount a) || ltb (capacity a) (stackLength a)) 3 rest)) ≡ 0 → Shaped limit a
   unfolding misshapen
-  shape-facts e g m n =
-      let last = neither-parts _ _ e in
-      let third = neither-parts _ _ (last .0) in
-      let second = neither-parts _ _ (third .0) in
-      let first = neither-parts _ _ (second .0) in
+  first-three rest e =
+      let one = pass _ _ _ tt e in
+      let two = pass _ _ _ tt (one .1) in
+      let three = neither-parts _ _ (pass _ _ _ tt (two .1) .0) in
+      let payloads = neither-parts _ _ (one .0) in
+      let generations = neither-parts _ _ (payloads .0) in
+      let nexts = neither-parts _ _ (generations .0) in
+      let sizes = neither-parts _ _ (nexts .0) in
       record {
-        header = eqb-true _ _ (not-false _ (first .0));
-        small = ltb-false _ _ (first .1);
-        next-length = eqb-true _ _ (not-false _ (second .1));
-        generation-length = eqb-true _ _ (not-false _ (third .1));
-        payload-length = eqb-true _ _ (not-false _ (last .1));
-        generation = g;
-        links-within = m;
-        within = n;
+        header = eqb-true _ _ (not-false _ (sizes .0));
+        small = ltb-false _ _ (sizes .1);
+        next-length = eqb-true _ _ (not-false _ (nexts .1));
+        generation-length = eqb-true _ _ (not-false _ (generations .1));
+        payload-length = eqb-true _ _ (not-false _ (payloads .1));
+        generation = ltb-false _ _ (two .0);
+        links-within = ltb-false _ _ (three .0);
+        within = ltb-false _ _ (three .1);
       }
 
   pub shaped : verdict limit a ≡ 0 → Shaped limit a
   unfolding verdict
-  shaped e =
-      let one = pass _ _ _ tt e in
-      let two = pass _ _ _ tt (one .1) in
-      let three = pass _ _ _ tt (two .1) in
-      let over = neither-parts _ _ (three .0) in
-      shape-facts (one .0) (ltb-false _ _ (two .0)) (ltb-false _ _ (over .0)) (ltb-false _ _ (over .1))
+  shaped e = first-three _ e
 
   -- where 1 to 3 do not refuse, the verdict is 4 to 10, then rule 11
   pub verdict-of-shaped : Shaped limit a → cond (not (eqb (countsVerdict a) 0)) (countsVerdict a) (cond (interlinksFine a) 0 11) ≡ verdict limit a

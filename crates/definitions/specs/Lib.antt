@@ -12,3 +12,4 @@ pub mod Compress
 pub mod Calls
 pub mod Demand3
 pub mod Cases
+pub mod Refusals

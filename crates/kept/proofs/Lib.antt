@@ -1,3 +1,10 @@
 pub mod RefusalChangesNothing
 pub mod Neighbours
 pub mod Edits
+pub mod Header
+pub mod Removal
+pub mod Runs
+pub mod CanonicalFreelist
+pub mod Drain
+pub mod EveryCallKeeps
+pub mod RunIsFold

@@ -1,8 +1,8 @@
 -- Laws of one side of the interlinks, for a column xs (prev or next) and the column ys that names back (next or prev): what an edit of both keeps.
 -- Each law is used twice, once for either side, with the two columns and the two slots in each other's place. Assumes nothing.
-use Prim.Native.Nat.{ℕ, zero, suc, _+_, _≤_, _<_}
+use Prim.Native.Nat.{ℕ, _≤_}
 use mathlib.Core.Path.{_≡_, refl, sym, ap, _∙_}
-use mathlib.Core.Bool.{Bool, true, false}
+use mathlib.Core.Bool.{Bool, true}
 use mathlib.Core.List.{List}
 use native.Mathlib.Omega.{arith}
 use native.Mathlib.Decide.{ℕ-discrete}
@@ -17,6 +17,12 @@ Named link ys x y = (y ≡ 0 → ⊥) → (link y ≡ true) × (at ys y ≡ x)
 -- so for every link: one side of the interlinks
 abbrev pub Side : (ℕ → Bool) → List ℕ → List ℕ → Type 0
 Side link xs ys = (x : ℕ) → link x ≡ true → Named link ys x (at xs x)
+
+-- columns that read the same at links, for a test that holds of the same slots
+pub side-agrees : (link same : ℕ → Bool) (xs ys xs′ ys′ : List ℕ) → Side link xs ys → ((x : ℕ) → same x ≡ true → link x ≡ true) → ((x : ℕ) → link x ≡ true → same x ≡ true)
+    → ((x : ℕ) → link x ≡ true → at xs′ x ≡ at xs x) → ((x : ℕ) → link x ≡ true → at ys′ x ≡ at ys x) → Side same xs′ ys′
+side-agrees link same xs ys xs′ ys′ side was stays agree-xs agree-ys x l =
+    rw (agree-xs x (was x l)) (λ some. let r = side x (was x l) some in (stays (at xs x) (r .0), agree-ys (at xs x) (r .0) ∙ r .1))
 
 -- the links stand in slots 1 to n, and the columns are long enough
 module _ (link : ℕ → Bool) (n : ℕ) (within : (x : ℕ) → link x ≡ true → (1 ≤ x) × (x ≤ n)) (xs ys : List ℕ) (long-xs : n ≤ length xs) (long-ys : n ≤ length ys) (side : Side link xs ys) where

@@ -11,35 +11,20 @@
 use Prim.Native.Nat.{ℕ}
 use mathlib.Core.Path.{_≡_, sym}
 use mathlib.Core.Logic.{_↔_}
-use mathlib.Core.Bool.{true}
 use native.Mathlib.Omega.{arith}
-use Rattle.definitions.specs.Columns.{at}
-use Rattle.definitions.specs.Arena.{Arena, stackLength, isLink}
-use Rattle.definitions.specs.Check.{verdict, Neighbour, WellFormed}
-use Rattle.definitions.proofs.Tests.{by-test}
-use Rattle.definitions.proofs.Slots.{allocated-within, allocated-some, links-and-free}
+use Rattle.definitions.specs.Arena.{Arena, stackLength}
+use Rattle.definitions.specs.Check.{verdict, WellFormed}
+use Rattle.definitions.proofs.Slots.{links-and-free}
 use Rattle.definitions.proofs.Freelist.{links-counted, freelist-of-counts, counts-of-freelist}
-use Rattle.definitions.proofs.Shaped.{Shaped, shaped, passed-counts, passed-links, passes, interlinksFine}
-use Rattle.definitions.proofs.Interlinks.{names-back, does-name-back, fine-free, fine-link, fine-parts, all-fine, each-fine}
-
--- 11 refuses nothing exactly if both neighbours of each link are links that name it back
-module _ (a : Arena) where
-  neighbours-of-links : interlinksFine a ≡ true → (x : ℕ) → isLink a x ≡ true → (Neighbour a (a .next) x (at (a .prev) x)) × (Neighbour a (a .prev) x (at (a .next) x))
-  neighbours-of-links e x l =
-      let fine = each-fine _ _ _ _ (stackLength a) e x (allocated-some _ _ x l) (allocated-within _ _ x l) in
-      let sides = fine-parts _ _ _ _ x fine l in
-      (names-back _ _ _ x _ (sides .0), names-back _ _ _ x _ (sides .1))
-
-  links-of-neighbours : ((x : ℕ) → isLink a x ≡ true → Neighbour a (a .next) x (at (a .prev) x)) → ((x : ℕ) → isLink a x ≡ true → Neighbour a (a .prev) x (at (a .next) x)) → interlinksFine a ≡ true
-  links-of-neighbours prev next =
-      all-fine _ _ _ _ (stackLength a) (λ x p h. by-test (isLink a x) (λ l. fine-link _ _ _ _ x (does-name-back _ _ _ x _ (prev x l)) (does-name-back _ _ _ x _ (next x l))) (λ l. fine-free _ _ _ _ x l))
+use Rattle.definitions.proofs.Shaped.{Shaped, shaped, passed-counts, passed-links, passes}
+use Rattle.definitions.proofs.Interlinks.{neighbours-if-fine, fine-if-neighbours}
 
 module _ (limit : ℕ) (a : Arena) where
   pub well-formed-if-passes : verdict limit a ≡ 0 → WellFormed limit a
   well-formed-if-passes e =
       let shape = shaped limit a e in
       let counts = passed-counts limit a e in
-      let neighbours = neighbours-of-links a (passed-links limit a e) in
+      let neighbours = neighbours-if-fine a (passed-links limit a e) in
       record {
         header = shape .header;
         small = shape .small;
@@ -68,7 +53,7 @@ module _ (limit : ℕ) (a : Arena) where
 
   pub passes-if-well-formed : WellFormed limit a → verdict limit a ≡ 0
   passes-if-well-formed h =
-      passes limit a (shape-if-well-formed h) (sym (counts-of-freelist a (h .links) (h .freelist .0) (h .freelist .1))) (links-of-neighbours a (h .prev) (h .next))
+      passes limit a (shape-if-well-formed h) (sym (counts-of-freelist a (h .links) (h .freelist .0) (h .freelist .1))) (fine-if-neighbours a (h .prev) (h .next))
 
   pub check-passes-exactly-if-well-formed : (verdict limit a ≡ 0) ↔ WellFormed limit a
   check-passes-exactly-if-well-formed = (well-formed-if-passes, passes-if-well-formed)

@@ -1,0 +1,42 @@
+-- The freelist walk, one visit at a time, as the code reads the columns. Assumes nothing.
+use Prim.Native.Nat.{ℕ, zero, suc, _+_, _-_, _≤_, _<_}
+use mathlib.Core.Path.{_≡_, refl, ap, _∙_}
+use mathlib.Core.Bool.{cond, not}
+use mathlib.Core.List.{List}
+use native.Mathlib.Omega.{arith}
+use native.Mathlib.Numerals.{sub-one}
+use lib.ListN.{length, getD}
+use lib.Dec.{eqb, ltb}
+use Rattle.definitions.specs.Columns.{at}
+use Rattle.definitions.specs.Arena.{freeSlots}
+use Rattle.definitions.specs.Check.{freelistWalk}
+
+module _ (ns gs : List ℕ) (n : ℕ) where
+  -- the walk at slot s after so many of the n + 2 visits
+  unfoldable pub walkAfter : ℕ → ℕ → ℕ
+  walkAfter visited s = freelistWalk ns gs n (n + 2 - visited) s visited
+
+  pub walk-starts : (root : ℕ) → walkAfter 0 root ≡ freelistWalk ns gs n (n + 2) root 0
+  unfolding walkAfter
+  walk-starts root = ap (λ (k : ℕ). freelistWalk ns gs n k root 0) (omega arith)
+
+  pub walk-ends : (visited s : ℕ) → n + 2 ≤ visited → 9 ≡ walkAfter visited s
+  unfolding walkAfter freelistWalk
+  walk-ends visited s h = let none : n + 2 - visited ≡ 0 = omega arith in rw none refl
+
+  -- one visit, of which the code reads the places s - 1; rest is what the visits after it answer
+  abbrev pub visit : ℕ → ℕ → ℕ → ℕ
+  visit visited s rest =
+      cond (eqb s 0) 6
+      (cond (ltb n s) 7
+      (cond (not (eqb (getD gs (s - 1) 0) 0)) 8
+      (cond (eqb (getD ns (s - 1) 0) s) (cond (ltb (visited + 1) (length (freeSlots gs n))) 10 0) rest)))
+
+  walk-visits : (visited s : ℕ) → visited < n + 2 → visit visited s (walkAfter (visited + 1) (getD ns (s - 1) 0)) ≡ walkAfter visited s
+  unfolding walkAfter freelistWalk at
+  walk-visits visited zero h = let more : n + 2 - visited ≡ suc (n + 2 - (visited + 1)) = omega arith in rw more refl
+  walk-visits visited (suc i) h = let more : n + 2 - visited ≡ suc (n + 2 - (visited + 1)) = omega arith in rw (more, sub-one) refl
+
+  -- what a visit answers is what the walk w answers
+  pub visit-answers : (visited s r w : ℕ) → visited < n + 2 → walkAfter visited s ≡ w → r ≡ visit visited s (walkAfter (visited + 1) (getD ns (s - 1) 0)) → r ≡ w
+  visit-answers visited s r w h e q = q ∙ walk-visits visited s h ∙ e

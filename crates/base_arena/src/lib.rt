@@ -1,0 +1,107 @@
+// The check of slots and freelist (arena/base_arena.rs, `_check_invariants`): refusals 1 to 10 of a lent arena.
+ghost use mathlib.Core.Path.{_≡_};
+ghost use Prim.Native.Nat.{_+_, _≤_};
+ghost use lib.ListN.{length};
+ghost use Rattle.definitions.specs.Arena.{arena, capacityLimit, linkSlots, freeSlots};
+ghost use Rattle.definitions.specs.Check.{freelistWalk, countsOf};
+ghost use Rattle.base_arena.specs.Shape.{shapeOf};
+
+// Refusals 1 to 3, or 0.
+pub fn shape(prev: &[u16], next: &[u16], generation: &[u32], payload: &[u32], header: &[u32]) -> u32
+    ensures { λ r. ⌜ r ≡ shapeOf capacityLimit (arena (now (prev .entry)) (now (next .entry)) (now (generation .entry)) (now (payload .entry)) (now (header .entry))) ⌝ }
+{
+    let capacity = prev.len();
+    if header.len() != 4 {
+        return 1;
+    }
+    if 65535 < capacity {
+        return 1;
+    }
+    if next.len() != capacity {
+        return 1;
+    }
+    if generation.len() != capacity {
+        return 1;
+    }
+    if payload.len() != capacity {
+        return 1;
+    }
+    if header[3] < 2 {
+        return 2;
+    }
+    if capacity < (header[1] as usize) {
+        return 3;
+    }
+    if capacity < (header[0] as usize) {
+        return 3;
+    }
+    0
+}
+
+// How many of the first n slots are allocated.
+pub fn allocated_slots(generation: &[u32], n: usize) -> usize
+    requires { ⌜ n ≤ length (now generation) ⌝ }
+    ensures { λ r. ⌜ r ≡ length (linkSlots (now (generation .entry)) n) ⌝ }
+{
+    let mut allocated: usize = 0;
+    let mut i: usize = 0;
+    while i < n {
+        if generation[i] != 0 {
+            allocated += 1;
+        }
+        i += 1;
+    }
+    allocated
+}
+
+// Walks the freelist from the root over the first n slots, of which so many are free: refusals 6 to 10, or 0.
+pub fn freelist(next: &[u16], generation: &[u32], n: usize, root: usize, free: usize) -> u32
+    requires { ⌜ (n ≤ length (now next)) × (n ≤ length (now generation)) × (n ≤ capacityLimit) × (free ≡ length (freeSlots (now generation) n)) ⌝ }
+    ensures { λ r. ⌜ r ≡ freelistWalk (now (next .entry)) (now (generation .entry)) n (n + 2) root 0 ⌝ }
+{
+    let mut visited: usize = 0;
+    let mut slot: usize = root;
+    while visited < n + 2 {
+        if slot == 0 {
+            return 6;
+        }
+        if n < slot {
+            return 7;
+        }
+        if generation[slot - 1] != 0 {
+            return 8;
+        }
+        let to = next[slot - 1] as usize;
+        visited += 1;
+        if to == slot {
+            if visited < free {
+                return 10;
+            }
+            return 0;
+        }
+        slot = to;
+    }
+    9
+}
+
+// Refusals 4 to 10, or 0: of the first n slots, with the link count and the root that the header says.
+pub fn counts(next: &[u16], generation: &[u32], n: usize, links: usize, root: usize) -> u32
+    requires { ⌜ (n ≤ length (now next)) × (n ≤ length (now generation)) × (n ≤ capacityLimit) ⌝ }
+    ensures { λ r. ⌜ r ≡ countsOf (now (next .entry)) (now (generation .entry)) n links root ⌝ }
+{
+    let allocated = allocated_slots(generation, n);
+    if links != allocated {
+        return 4;
+    }
+    let free = n - allocated;
+    if root == 0 {
+        if free == 0 {
+            return 0;
+        }
+        return 5;
+    }
+    if free == 0 {
+        return 5;
+    }
+    freelist(next, generation, n, root, free)
+}

@@ -1,0 +1,50 @@
+-- A link of a well formed arena can be taken out: its neighbours and the root are in the stack, and there is a link to count off. Assumes nothing.
+use Prim.Native.Nat.{ℕ, _≤_, _<_}
+use mathlib.Core.Path.{_≡_, sym, ap}
+use mathlib.Core.Bool.{true}
+use mathlib.Core.List.{List, [], _∷_}
+use native.Mathlib.Omega.{arith}
+use native.Mathlib.Decide.{ℕ-discrete}
+use lib.ListN.{length}
+use Rattle.definitions.specs.Columns.{firstOr, count}
+use Rattle.definitions.specs.Arena.{Arena, capacityLimit, stackLength, linkCount, root, linkSlots, isLink}
+use Rattle.definitions.specs.Check.{WellFormed, Freelist, Neighbour}
+use Rattle.definitions.proofs.Slots.{allocated-some, allocated-within}
+use Rattle.definitions.proofs.Count.{In, in-here, not-in-nil, count-links}
+use Rattle.base_removal.specs.Removal.{Removable}
+
+-- a neighbour is none, or is in the stack
+pub neighbour-within : (a : Arena) (back : List ℕ) (x s : ℕ) → Neighbour a back x s → s ≤ stackLength a
+neighbour-within a back x s h = go (ℕ-discrete s 0)
+  where
+    go : Dec (s ≡ 0) → s ≤ stackLength a
+    go (yes z) = omega arith
+    go (no d) = allocated-within (a .generation) (stackLength a) s (h d .0)
+
+-- the root is none, or is in the stack
+root-within : (a : Arena) (fs : List ℕ) → Freelist a fs → root a ≤ stackLength a
+unfolding firstOr
+root-within a [] f = let e = f .starts in omega arith
+root-within a (s ∷ fs) f = let e = f .starts in omega (arith, f .free s (in-here s fs) .1)
+
+some-member : (x : ℕ) (xs : List ℕ) → In x xs → 0 < length xs
+some-member x [] i = absurd (not-in-nil x i)
+some-member x (y ∷ ys) i = omega arith
+
+pub removable : (a : Arena) (s : ℕ) → WellFormed capacityLimit a → isLink a s ≡ true → Removable a s
+removable a s ok l =
+    let some = allocated-some (a .generation) (stackLength a) s l in
+    let within = allocated-within (a .generation) (stackLength a) s l in
+    let before = neighbour-within a (a .next) s _ (ok .prev s l) in
+    let after = neighbour-within a (a .prev) s _ (ok .next s l) in
+    let root = root-within a (ok .freelist .0) (ok .freelist .1) in
+    let listed = some-member s (linkSlots (a .generation) (stackLength a)) (omega (arith, count-links (a .generation) (stackLength a) s l)) in
+    let counts = ok .links in
+    record {
+      header = ok .header;
+      stands = omega arith;
+      joinable = omega arith;
+      within = within;
+      rooted = omega arith;
+      counted = omega arith;
+    }

@@ -1,0 +1,144 @@
+// Removal of a slot (arena/base_arena.rs, `remove_internal`, and the joining of its neighbours in chain/impl_chain_arena_trait.rs).
+ghost use mathlib.Core.Path.{_≡_};
+ghost use mathlib.Core.Bool.{cond};
+ghost use mathlib.Core.List.{List};
+ghost use Prim.Native.Nat.{ℕ, _-_, _≤_, _<_};
+ghost use lib.Dec.{eqb};
+ghost use lib.ListN.{length, getD};
+ghost use Rattle.definitions.specs.Columns.{put};
+ghost use Rattle.definitions.specs.Arena.{arena, capacityLimit, largestGeneration, headerWords, withStackLength, withRoot};
+ghost use Rattle.definitions.specs.Remove.{joined, vacated};
+ghost use Rattle.base_removal.specs.Removal.{Joinable, Stands, Counted, Removable, TakenOut};
+use ptr::Gen;
+use ptr::Slot;
+
+// Writes v at slot s of a link column. Slot 0 is none, and nothing is written there.
+pub fn put_at(column: &mut [u16], s: Slot, v: Slot)
+    requires { ⌜ s .0 ≤ length (now column) ⌝ }
+    ensures { λ _. ⌜ now (column .exit) ≡ put (now (column .entry)) (s .0) (v .0) ⌝ }
+{
+    let at = s.0 as usize;
+    if at != 0 {
+        column[at - 1] = v.0;
+    }
+}
+
+// Joins the neighbours of slot s: they name each other.
+pub fn join(prev: &mut [u16], next: &mut [u16], s: Slot)
+    requires { ⌜ Joinable (now prev) (now next) (s .0) ⌝ }
+    ensures { λ _. ⌜ ((gs vs h : List ℕ) → arena (now (prev .exit)) (now (next .exit)) gs vs h ≡ joined (arena (now (prev .entry)) (now (next .entry)) gs vs h) (s .0)) ⌝ }
+{
+    let i = s.0 as usize - 1;
+    let before = Slot(prev[i]);
+    let after = Slot(next[i]);
+    put_at(&mut *next, before, after);
+    put_at(&mut *prev, after, before);
+}
+
+// Empties slot s: its next gets the freelist pointer f, 0 for a popped slot, and its other words 0.
+pub fn vacate(
+    prev: &mut [u16],
+    next: &mut [u16],
+    generation: &mut [u32],
+    payload: &mut [u32],
+    s: Slot,
+    f: Slot,
+)
+    requires { ⌜ Stands (now prev) (now next) (now generation) (now payload) (s .0) ⌝ }
+    ensures { λ _. ⌜ ((old h : List ℕ) → arena (now (prev .exit)) (now (next .exit)) (now (generation .exit)) (now (payload .exit)) h
+        ≡ vacated (arena (now (prev .entry)) (now (next .entry)) (now (generation .entry)) (now (payload .entry)) old) (s .0) (f .0) h) ⌝ }
+{
+    let i = s.0 as usize - 1;
+    prev[i] = 0;
+    next[i] = f.0;
+    generation[i] = 0;
+    payload[i] = 0;
+}
+
+// Counts a removal in the header: one link fewer, in the next generation. Answers whether the generation overflowed.
+pub fn count_removal(header: &mut [u32]) -> bool
+    requires { ⌜ (length (now header) ≡ headerWords) × (0 < getD (now header) 1 0) ⌝ }
+    ensures { λ r. ⌜ Counted largestGeneration (now (header .entry)) (now (header .exit)) r ⌝ }
+{
+    let raised = Gen(header[3]).generational_inc();
+    let links = header[1];
+    header[3] = raised.generation.0;
+    header[1] = links - 1;
+    raised.overflow
+}
+
+// Pops slot s, the last of the stack. The freelist is left alone.
+pub fn pop(
+    prev: &mut [u16],
+    next: &mut [u16],
+    generation: &mut [u32],
+    payload: &mut [u32],
+    header: &mut [u32],
+    s: Slot,
+)
+    requires { ⌜ Stands (now prev) (now next) (now generation) (now payload) (s .0) ⌝ }
+    requires { ⌜ (length (now header) ≡ headerWords) × (s .0 ≡ getD (now header) 0 0) ⌝ }
+    ensures { λ _. ⌜ arena (now (prev .exit)) (now (next .exit)) (now (generation .exit)) (now (payload .exit)) (now (header .exit))
+        ≡ vacated (arena (now (prev .entry)) (now (next .entry)) (now (generation .entry)) (now (payload .entry)) (now (header .entry))) (s .0) 0
+        (withStackLength (s .0 - 1) (now (header .entry))) ⌝ }
+{
+    vacate(prev, next, generation, payload, s, Slot(0));
+    header[0] = s.0 as u32 - 1;
+}
+
+// What a freed slot s points at: the old root, or itself if there was none.
+pub fn freelist_pointer(root: u32, s: Slot) -> Slot
+    requires { ⌜ root ≤ capacityLimit ⌝ }
+    ensures { λ r. ⌜ r .0 ≡ cond (eqb root 0) (s .0) root ⌝ }
+{
+    if root == 0 {
+        return s;
+    }
+    Slot(root as u16)
+}
+
+// Frees slot s: it becomes the freelist's root, and points at the old root, or at itself if there was none.
+pub fn free(
+    prev: &mut [u16],
+    next: &mut [u16],
+    generation: &mut [u32],
+    payload: &mut [u32],
+    header: &mut [u32],
+    s: Slot,
+)
+    requires { ⌜ Stands (now prev) (now next) (now generation) (now payload) (s .0) ⌝ }
+    requires { ⌜ (length (now header) ≡ headerWords) × (getD (now header) 2 0 ≤ capacityLimit) ⌝ }
+    ensures { λ _. ⌜ arena (now (prev .exit)) (now (next .exit)) (now (generation .exit)) (now (payload .exit)) (now (header .exit))
+        ≡ vacated (arena (now (prev .entry)) (now (next .entry)) (now (generation .entry)) (now (payload .entry)) (now (header .entry))) (s .0)
+        (cond (eqb (getD (now (header .entry)) 2 0) 0) (s .0) (getD (now (header .entry)) 2 0)) (withRoot (s .0) (now (header .entry))) ⌝ }
+{
+    let f = freelist_pointer(header[2], s);
+    vacate(prev, next, generation, payload, s, f);
+    header[2] = s.0 as u32;
+}
+
+// Takes slot s out of its chain and out of use, and raises the generation. Answers whether that overflowed.
+pub fn take_out(
+    prev: &mut [u16],
+    next: &mut [u16],
+    generation: &mut [u32],
+    payload: &mut [u32],
+    header: &mut [u32],
+    s: Slot,
+) -> bool
+    requires { ⌜ Removable (arena (now prev) (now next) (now generation) (now payload) (now header)) (s .0) ⌝ }
+    ensures { λ r. ⌜ TakenOut largestGeneration
+        (arena (now (prev .entry)) (now (next .entry)) (now (generation .entry)) (now (payload .entry)) (now (header .entry))) (s .0)
+        (arena (now (prev .exit)) (now (next .exit)) (now (generation .exit)) (now (payload .exit)) (now (header .exit))) r ⌝ }
+{
+    let n = header[0];
+    let last = s.0 as u32;
+    join(&mut *prev, &mut *next, s);
+    let overflow = count_removal(&mut *header);
+    if last == n {
+        pop(prev, next, generation, payload, header, s);
+    } else {
+        free(prev, next, generation, payload, header, s);
+    }
+    overflow
+}

@@ -1,0 +1,56 @@
+-- `chain_arena::interlinks` meets its contract. The loop's invariant: rule 11 holds at every slot below x. The measure is what is left of the n
+-- slots. Assumes nothing.
+use Prim.Native.Nat.{ℕ, _+_, _-_, _≤_, _<_}
+use mathlib.Core.Path.{_≡_, refl}
+use mathlib.Core.Bool.{true}
+use native.Mathlib.Omega.{arith}
+use borrow.Author.Count.{below-more}
+use borrow.Author.Needs.{needs}
+use Rattle.definitions.specs.Check.{neighboursFine}
+use Rattle.definitions.proofs.Tests.{tests}
+use Rattle.definitions.proofs.Interlinks.{all-fine}
+use Rattle.chain_arena.proofs.Neighbours.{fails-at}
+use Rattle.chain_arena.proofs.interlinks.Statement.{statement}
+use Rattle.chain_arena.proofs.interlinks.Tie as tie
+
+abbrev Inv-loop : tie.InvT-loop
+Inv-loop prev next generation n x₀ x =
+    (0 < x) × (x ≤ n + 1) × ((k : ℕ) → k < x → 0 < k → neighboursFine prev next generation n k ≡ true)
+
+abbrev μ-loop : tie.MeasureT-loop
+μ-loop prev next generation n x₀ x = n + 1 - x
+
+loop-holds : tie.Need-loop-holds Inv-loop μ-loop
+loop-holds c = (omega arith, omega arith, λ k h p. absurd (omega arith))
+
+neighbours-fine-requires : tie.Need-neighbours-fine-requires Inv-loop μ-loop
+neighbours-fine-requires c κs = search needs
+
+returns : tie.Need-returns Inv-loop μ-loop
+returns c = (omega arith, fails-at _ _ _ _ (c .before .before .before .loop .x) (omega arith) (omega arith) (search tests), λ z. search tests)
+
+add-x : tie.Need-add-x Inv-loop μ-loop
+add-x c = search needs
+
+loop-less : tie.Need-loop-less Inv-loop μ-loop
+loop-less c = search needs
+
+loop-again : tie.Need-loop-again Inv-loop μ-loop
+loop-again c = (omega arith, omega arith, below-more _ _ (c .before .before .before .loop .inv .2) (λ p. search tests))
+
+returns-2 : tie.Need-returns-2 Inv-loop μ-loop
+returns-2 c = (omega arith, all-fine _ _ _ _ _ (λ x p h. c .before .loop .inv .2 x (omega arith) p), λ z. absurd (z refl))
+
+pub interlinks-spec : {M : Type 1} → statement M
+interlinks-spec =
+    tie.close
+    (tie.spec
+    Inv-loop
+    μ-loop
+    loop-holds
+    neighbours-fine-requires
+    returns
+    add-x
+    loop-less
+    loop-again
+    returns-2)

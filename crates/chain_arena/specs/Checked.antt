@@ -1,0 +1,25 @@
+-- What the check's answer says of the arena.
+use Prim.Native.Nat.{ℕ}
+use mathlib.Core.Path.{_≡_}
+use Rattle.definitions.specs.Arena.{Arena, capacityLimit}
+use Rattle.definitions.specs.Check.{verdict, Names}
+use Rattle.chain_arena.specs.declared.Checked.{Checked}
+use Rattle.chain_arena.specs.declared.Checked.the-variants.{Passed, Refused, Broken}
+
+-- document 01's number for each answer
+abbrev pub checkedNumber : Checked → ℕ
+checkedNumber Passed = 0
+checkedNumber (Refused k) = k
+checkedNumber (Broken s) = 11
+
+-- the slot that 11 names, else 0
+abbrev pub brokenSlot : Checked → ℕ
+brokenSlot Passed = 0
+brokenSlot (Refused k) = 0
+brokenSlot (Broken s) = s .0
+
+-- the answer r to the arena a: its number is the verdict, and with 11 it names a slot at which rule 11 fails
+pub record Checks (a : Arena) (r : Checked) : Type 0 where
+  pub number : checkedNumber r ≡ verdict capacityLimit a
+  pub names : Names capacityLimit a (brokenSlot r)
+  pub passed : verdict capacityLimit a ≡ 0 → r ≡ Passed

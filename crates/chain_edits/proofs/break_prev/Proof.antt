@@ -1,0 +1,65 @@
+-- `chain_edits::break_prev` meets its contract. A neighbour of a link is in the stack, so its word can be written. Assumes nothing.
+use mathlib.Core.Path.{sym, _∙_}
+use native.Mathlib.Omega.{arith}
+use borrow.Author.Needs.{needs}
+use Rattle.definitions.specs.Edit.{breakPrev}
+use Rattle.chain_edits.proofs.Around.{around}
+use Rattle.chain_traits.proofs.Fresh.{reads}
+use Rattle.chain_edits.proofs.break_prev.Statement.{statement}
+use Rattle.chain_edits.proofs.break_prev.Tie as tie
+
+shared-slice-read-n : tie.Need-shared-slice-read-n
+shared-slice-read-n c = search needs
+
+cast-n : tie.Need-cast-n
+cast-n c = search needs
+
+stale-requires : tie.Need-stale-requires
+stale-requires c κs = search needs
+
+returns : tie.Need-returns
+unfolding breakPrev
+returns c = search reads depth 20
+
+slot-at-requires : tie.Need-slot-at-requires
+slot-at-requires c κs = let at-p = around _ _ _ (c .before .before .before .before .before .before .before .before .before .pre) (sym (c .before .before .stale .ensures) ∙ c .before .if1 .left) in omega arith
+
+same-length : tie.Need-same-length
+same-length c = search needs
+
+returns-2 : tie.Need-returns-2
+unfolding breakPrev
+returns-2 c = rw (← c .before .before .slot-at .ensures) (search reads depth 20)
+
+put-at-requires : tie.Need-put-at-requires
+put-at-requires c κs = let at-p = around _ _ _ (c .before .before .before .before .before .before .before .before .before .before .before .before .before .pre) (sym (c .before .before .before .before .before .before .stale .ensures) ∙ c .before .before .before .before .before .if1 .left) in omega (arith, c .before .before .before .slot-at .ensures)
+
+put-at-requires-2 : tie.Need-put-at-requires-2
+put-at-requires-2 c κs = let at-p = around _ _ _ (c .before .before .before .before .before .before .before .before .before .before .before .before .before .before .before .before .before .pre) (sym (c .before .before .before .before .before .before .before .before .before .before .stale .ensures) ∙ c .before .before .before .before .before .before .before .before .before .if1 .left) in omega (arith, c .before .before .before .before .before .before .before .slot-at .ensures)
+
+same-length-2 : tie.Need-same-length-2
+same-length-2 c = search needs
+
+same-length-3 : tie.Need-same-length-3
+same-length-3 c = search needs
+
+returns-3 : tie.Need-returns-3
+unfolding breakPrev
+returns-3 c = rw (c .before .before .before .before .before .before .put-at .ensures, c .before .before .put-at2 .ensures, ← c .before .before .before .before .before .before .before .before .before .before .slot-at .ensures) (search reads depth 20)
+
+pub break-prev-spec : {M : Type 1} → statement M
+break-prev-spec =
+    tie.close
+    (tie.spec
+    shared-slice-read-n
+    cast-n
+    stale-requires
+    returns
+    slot-at-requires
+    same-length
+    returns-2
+    put-at-requires
+    put-at-requires-2
+    same-length-2
+    same-length-3
+    returns-3)

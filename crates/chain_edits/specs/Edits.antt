@@ -1,0 +1,17 @@
+-- Document 01's number for the answer of an edit, and the reply that it is.
+use Prim.Native.Nat.{ℕ}
+use mathlib.Core.List.{[]}
+use Rattle.definitions.specs.Arena.{Arena}
+use Rattle.definitions.specs.Reply.{Reply, reply}
+use Rattle.chain_edits.specs.declared.Edited.{Edited}
+use Rattle.chain_edits.specs.declared.Edited.the-variants.{Done, Stale, Misplaced}
+
+-- 0 done; 12, a stale pointer; 13, a neighbour that connect must not find, or that break and exchange must
+abbrev pub editedNumber : Edited → ℕ
+editedNumber Done = 0
+editedNumber Stale = 12
+editedNumber Misplaced = 13
+
+-- an edit answers no further field and hands nothing back; a is the arena left
+abbrev pub editedReply : Edited → Arena → Reply
+editedReply r a = reply (editedNumber r) [] a []

@@ -1,0 +1,198 @@
+// Connect, break, exchange and remove (chain/impl_chain_arena_trait.rs) on an arena that passed the check.
+ghost use mathlib.Core.Path.{_≡_};
+ghost use mathlib.Core.List.{[]};
+ghost use Prim.Native.Nat.{_≤_};
+ghost use lib.ListN.{length};
+ghost use Rattle.definitions.specs.Columns.{put};
+ghost use Rattle.definitions.specs.Arena.{arena, capacityLimit, largestGeneration};
+ghost use Rattle.definitions.specs.Check.{WellFormed};
+ghost use Rattle.definitions.specs.Edit.{connect, breakPrev, breakNext, exchangeNext};
+ghost use Rattle.definitions.specs.Remove.{remove};
+ghost use Rattle.links.specs.Links.{removalReply};
+ghost use Rattle.chain_traits.specs.Read.{pointerOf};
+ghost use Rattle.chain_edits.specs.Edits.{editedNumber, editedReply};
+use base_removal::put_at;
+use base_removal::take_out;
+use chain_traits::GotLinkNoGen;
+use chain_traits::get_link_no_gen;
+use chain_traits::slot_at;
+use chain_traits::stale;
+use links::InvalidationResult;
+use ptr::Ptr;
+use ptr::Slot;
+
+// What an edit of interlinks answers.
+pub enum Edited {
+    Done,
+    // A pointer is stale.
+    Stale,
+    // A link has a neighbour that connect must not find, or lacks one that break and exchange must find.
+    Misplaced,
+}
+
+impl Edited {
+    // Document 01's number for the answer.
+    pub fn number(self) -> u32
+        ensures { λ r. ⌜ r ≡ editedNumber self ⌝ }
+    {
+        match self {
+            Edited::Done => 0,
+            Edited::Stale => 12,
+            Edited::Misplaced => 13,
+        }
+    }
+}
+
+// Joins the end p_prev to the start p_next.
+pub fn connect(
+    prev: &mut [u16],
+    next: &mut [u16],
+    generation: &[u32],
+    payload: &[u32],
+    header: &[u32],
+    p_prev: Ptr,
+    p_next: Ptr,
+) -> Edited
+    requires { ⌜ WellFormed capacityLimit (arena (now prev) (now next) (now generation) (now payload) (now header)) ⌝ }
+    ensures { λ r. ⌜ editedReply r (arena (now (prev .exit)) (now (next .exit)) (now (generation .entry)) (now (payload .entry)) (now (header .entry)))
+        ≡ connect (arena (now (prev .entry)) (now (next .entry)) (now (generation .entry)) (now (payload .entry)) (now (header .entry)))
+        (pointerOf «p_prev») (pointerOf «p_next») [] ⌝ }
+{
+    let n = header[0] as usize;
+    if stale(generation, n, p_prev) {
+        return Edited::Stale;
+    }
+    if slot_at(&*next, p_prev.inx).0 != 0 {
+        return Edited::Misplaced;
+    }
+    if stale(generation, n, p_next) {
+        return Edited::Stale;
+    }
+    if slot_at(&*prev, p_next.inx).0 != 0 {
+        return Edited::Misplaced;
+    }
+    put_at(next, p_prev.inx, p_next.inx);
+    put_at(prev, p_next.inx, p_prev.inx);
+    Edited::Done
+}
+
+// Takes the interlink between p and its prev away.
+pub fn break_prev(
+    prev: &mut [u16],
+    next: &mut [u16],
+    generation: &[u32],
+    payload: &[u32],
+    header: &[u32],
+    p: Ptr,
+) -> Edited
+    requires { ⌜ WellFormed capacityLimit (arena (now prev) (now next) (now generation) (now payload) (now header)) ⌝ }
+    ensures { λ r. ⌜ editedReply r (arena (now (prev .exit)) (now (next .exit)) (now (generation .entry)) (now (payload .entry)) (now (header .entry)))
+        ≡ breakPrev (arena (now (prev .entry)) (now (next .entry)) (now (generation .entry)) (now (payload .entry)) (now (header .entry))) (pointerOf p) [] ⌝ }
+{
+    let n = header[0] as usize;
+    if stale(generation, n, p) {
+        return Edited::Stale;
+    }
+    let before = slot_at(&*prev, p.inx);
+    if before.0 == 0 {
+        return Edited::Misplaced;
+    }
+    put_at(next, before, Slot(0));
+    put_at(prev, p.inx, Slot(0));
+    Edited::Done
+}
+
+// Takes the interlink between p and its next away.
+pub fn break_next(
+    prev: &mut [u16],
+    next: &mut [u16],
+    generation: &[u32],
+    payload: &[u32],
+    header: &[u32],
+    p: Ptr,
+) -> Edited
+    requires { ⌜ WellFormed capacityLimit (arena (now prev) (now next) (now generation) (now payload) (now header)) ⌝ }
+    ensures { λ r. ⌜ editedReply r (arena (now (prev .exit)) (now (next .exit)) (now (generation .entry)) (now (payload .entry)) (now (header .entry)))
+        ≡ breakNext (arena (now (prev .entry)) (now (next .entry)) (now (generation .entry)) (now (payload .entry)) (now (header .entry))) (pointerOf p) [] ⌝ }
+{
+    let n = header[0] as usize;
+    if stale(generation, n, p) {
+        return Edited::Stale;
+    }
+    let after = slot_at(&*next, p.inx);
+    if after.0 == 0 {
+        return Edited::Misplaced;
+    }
+    put_at(next, p.inx, Slot(0));
+    put_at(prev, after, Slot(0));
+    Edited::Done
+}
+
+// Writes v at slot s of a link column, then w at slot t.
+pub fn put_two(column: &mut [u16], s: Slot, v: Slot, t: Slot, w: Slot)
+    requires { ⌜ (s .0 ≤ length (now column)) × (t .0 ≤ length (now column)) ⌝ }
+    ensures { λ _. ⌜ now (column .exit) ≡ put (put (now (column .entry)) (s .0) (v .0)) (t .0) (w .0) ⌝ }
+{
+    put_at(&mut *column, s, v);
+    put_at(column, t, w);
+}
+
+// Gives each of p0 and p1 the other's next.
+pub fn exchange_next(
+    prev: &mut [u16],
+    next: &mut [u16],
+    generation: &[u32],
+    payload: &[u32],
+    header: &[u32],
+    p0: Ptr,
+    p1: Ptr,
+) -> Edited
+    requires { ⌜ WellFormed capacityLimit (arena (now prev) (now next) (now generation) (now payload) (now header)) ⌝ }
+    ensures { λ r. ⌜ editedReply r (arena (now (prev .exit)) (now (next .exit)) (now (generation .entry)) (now (payload .entry)) (now (header .entry)))
+        ≡ exchangeNext (arena (now (prev .entry)) (now (next .entry)) (now (generation .entry)) (now (payload .entry)) (now (header .entry)))
+        (pointerOf p0) (pointerOf p1) [] ⌝ }
+{
+    let n = header[0] as usize;
+    if stale(generation, n, p0) {
+        return Edited::Stale;
+    }
+    if stale(generation, n, p1) {
+        return Edited::Stale;
+    }
+    let d0 = slot_at(&*next, p0.inx);
+    let d1 = slot_at(&*next, p1.inx);
+    if d0.0 == 0 {
+        return Edited::Misplaced;
+    }
+    if d1.0 == 0 {
+        return Edited::Misplaced;
+    }
+    put_two(next, p0.inx, d1, p1.inx, d0);
+    put_two(prev, d0, p1.inx, d1, p0.inx);
+    Edited::Done
+}
+
+// Removes the link at p: joins its neighbours and vacates its slot. Answers the link as it was.
+pub fn remove(
+    prev: &mut [u16],
+    next: &mut [u16],
+    generation: &mut [u32],
+    payload: &mut [u32],
+    header: &mut [u32],
+    p: Ptr,
+) -> InvalidationResult
+    requires { ⌜ WellFormed capacityLimit (arena (now prev) (now next) (now generation) (now payload) (now header)) ⌝ }
+    ensures { λ r. ⌜ removalReply r (arena (now (prev .exit)) (now (next .exit)) (now (generation .exit)) (now (payload .exit)) (now (header .exit))) []
+        ≡ remove largestGeneration (arena (now (prev .entry)) (now (next .entry)) (now (generation .entry)) (now (payload .entry)) (now (header .entry))) (pointerOf p) [] ⌝ }
+{
+    match get_link_no_gen(&*prev, &*next, &*generation, &*payload, &*header, p) {
+        GotLinkNoGen::Stale => InvalidationResult::InvalidPtr,
+        GotLinkNoGen::Found(link) => {
+            if take_out(prev, next, generation, payload, header, p.inx) {
+                InvalidationResult::GenerationOverflow(link)
+            } else {
+                InvalidationResult::Success(link)
+            }
+        }
+    }
+}

@@ -1,0 +1,167 @@
+// The walk along a chain (chain/chain_iterators.rs) in an arena that passed the check.
+ghost use mathlib.Core.Path.{_≡_};
+ghost use mathlib.Core.Bool.{true, cond};
+ghost use mathlib.Core.List.{[]};
+ghost use Prim.Native.Nat.{_-_, _≤_, _<_};
+ghost use lib.ListN.{length};
+ghost use Rattle.definitions.specs.Columns.{at};
+ghost use Rattle.definitions.specs.Arena.{arena, capacityLimit, allocated, isLink};
+ghost use Rattle.definitions.specs.Walk.{walk, walkStart, onward, step};
+ghost use Rattle.definitions.proofs.Shaped.{Shaped};
+ghost use Rattle.chain_traits.specs.Read.{pointerOf};
+ghost use Rattle.chain_iterators.specs.Walk.{walkOf, steppedOf, startReply};
+use chain_traits::slot_at;
+use chain_traits::stale;
+use chain_traits::word_at;
+use ptr::Ptr;
+use ptr::Slot;
+
+// A walk along one chain. Its words can be any: a position past the stack, free or 0 has ended.
+pub struct ChainPtrAdvancer {
+    // where the walk started
+    pub init: u32,
+    // the slot that the next step answers, 0 where the walk has ended
+    pub ptr: u32,
+    // 0 along next, any other along prev
+    pub switch: u32,
+    // the advances left
+    pub max_advances: u32,
+}
+
+// What a step answers, slot 0 and generation 0 for none, and the next state.
+pub struct Advanced {
+    pub slot: u32,
+    pub generation: u32,
+    pub state: ChainPtrAdvancer,
+}
+
+// What starting a walk answers.
+pub enum Started {
+    At(ChainPtrAdvancer),
+    Stale,
+}
+
+// Whether s is a link where the stack is n slots long.
+pub fn is_link(generation: &[u32], n: usize, s: u32) -> bool
+    requires { ⌜ (n ≤ length (now generation)) × (n ≤ capacityLimit) ⌝ }
+    ensures { λ r. ⌜ r ≡ allocated (now (generation .entry)) n s ⌝ }
+{
+    if s == 0 {
+        return false;
+    }
+    if n < s as usize {
+        return false;
+    }
+    word_at(generation, Slot(s as u16)) != 0
+}
+
+// The prev of the link s; 0 where s is no link.
+pub fn prev_of(prev: &[u16], generation: &[u32], n: usize, s: u32) -> u32
+    requires { ⌜ (n ≤ length (now prev)) × (n ≤ length (now generation)) × (n ≤ capacityLimit) ⌝ }
+    ensures { λ r. ⌜ r ≡ cond (allocated (now (generation .entry)) n s) (at (now (prev .entry)) s) 0 ⌝ }
+{
+    if !is_link(generation, n, s) {
+        return 0;
+    }
+    slot_at(prev, Slot(s as u16)).0 as u32
+}
+
+// Starts a walk at p, with as many advances as there are links.
+pub fn advancer_chain(
+    prev: &[u16],
+    next: &[u16],
+    generation: &[u32],
+    payload: &[u32],
+    header: &[u32],
+    p: Ptr,
+) -> Started
+    requires { ⌜ Shaped capacityLimit (arena (now prev) (now next) (now generation) (now payload) (now header)) ⌝ }
+    ensures { λ r. ⌜ startReply r (arena (now (prev .entry)) (now (next .entry)) (now (generation .entry)) (now (payload .entry)) (now (header .entry))) []
+        ≡ walkStart (arena (now (prev .entry)) (now (next .entry)) (now (generation .entry)) (now (payload .entry)) (now (header .entry))) (pointerOf p) [] ⌝ }
+{
+    if stale(generation, header[0] as usize, p) {
+        return Started::Stale;
+    }
+    Started::At(ChainPtrAdvancer {
+        init: p.inx.0 as u32,
+        ptr: p.inx.0 as u32,
+        switch: 0,
+        max_advances: header[1],
+    })
+}
+
+impl ChainPtrAdvancer {
+    // The state one advance later, at another position and in this direction.
+    pub fn moved(self, ptr: u32, switch: u32) -> ChainPtrAdvancer
+        requires { ⌜ 0 < self .«max_advances» ⌝ }
+        ensures { λ r. ⌜ walkOf r ≡ walk (self .init) ptr switch (self .«max_advances» - 1) ⌝ }
+    {
+        ChainPtrAdvancer {
+            init: self.init,
+            ptr: ptr,
+            switch: switch,
+            max_advances: self.max_advances - 1,
+        }
+    }
+
+    // The state after the link at the position was answered: on along the direction, at the end of an open chain to the start's prev, and at the
+    // start of a closed one to no position.
+    pub fn onward(
+        self,
+        prev: &[u16],
+        next: &[u16],
+        generation: &[u32],
+        payload: &[u32],
+        header: &[u32],
+    ) -> ChainPtrAdvancer
+        requires { ⌜ Shaped capacityLimit (arena (now prev) (now next) (now generation) (now payload) (now header)) ⌝ }
+        requires { ⌜ (isLink (arena (now prev) (now next) (now generation) (now payload) (now header)) (self .ptr) ≡ true) × (0 < self .«max_advances») ⌝ }
+        ensures { λ r. ⌜ walkOf r ≡ onward (arena (now (prev .entry)) (now (next .entry)) (now (generation .entry)) (now (payload .entry)) (now (header .entry))) (walkOf self) ⌝ }
+    {
+        let here = Slot(self.ptr as u16);
+        if self.switch != 0 {
+            return self.moved(slot_at(prev, here).0 as u32, self.switch);
+        }
+        let ahead = slot_at(next, here).0 as u32;
+        if ahead == 0 {
+            return self.moved(prev_of(prev, generation, header[0] as usize, self.init), 1);
+        }
+        if ahead == self.init {
+            return self.moved(0, self.switch);
+        }
+        self.moved(ahead, self.switch)
+    }
+
+    // One step: the link at the position, and the state that goes on from there.
+    pub fn advance(
+        self,
+        prev: &[u16],
+        next: &[u16],
+        generation: &[u32],
+        payload: &[u32],
+        header: &[u32],
+    ) -> Advanced
+        requires { ⌜ Shaped capacityLimit (arena (now prev) (now next) (now generation) (now payload) (now header)) ⌝ }
+        ensures { λ r. ⌜ steppedOf r ≡ step (arena (now (prev .entry)) (now (next .entry)) (now (generation .entry)) (now (payload .entry)) (now (header .entry))) (walkOf self) ⌝ }
+    {
+        if self.max_advances == 0 {
+            return Advanced {
+                slot: 0,
+                generation: 0,
+                state: self,
+            };
+        }
+        if !is_link(generation, header[0] as usize, self.ptr) {
+            return Advanced {
+                slot: 0,
+                generation: 0,
+                state: self.moved(0, self.switch),
+            };
+        }
+        Advanced {
+            slot: self.ptr,
+            generation: word_at(generation, Slot(self.ptr as u16)),
+            state: self.onward(prev, next, generation, payload, header),
+        }
+    }
+}

@@ -1,0 +1,40 @@
+-- `chain_traits::get_link` meets its contract. What get_link_no_gen found is the link at p, and in an arena that passed the check its neighbours
+-- are within the stack, where their generations are read. Assumes nothing.
+use borrow.Author.Needs.{needs}
+use Rattle.definitions.proofs.Shaped.{shaped}
+use Rattle.chain_traits.proofs.Found.{found, found-within, found-link, none-found}
+use Rattle.chain_traits.proofs.get_link.Statement.{statement}
+use Rattle.chain_traits.proofs.get_link.Tie as tie
+
+get-link-no-gen-requires : tie.Need-get-link-no-gen-requires
+get-link-no-gen-requires c κs = shaped _ _ (c .before .before .before .before .before .pre)
+
+enum-told : tie.Need-enum-told
+enum-told c = search needs
+
+enum-known-l : tie.Need-enum-known-l
+enum-known-l c = search needs
+
+pointer-to-requires : tie.Need-pointer-to-requires
+pointer-to-requires c κs = found-within _ _ _ _ (c .before .before .before .before .before .before .before .before .before .pre) (found _ _ _ (rw (c .before .l .given .1) at (c .before .before .before .get-link-no-gen .ensures))) .0
+
+pointer-to-requires-2 : tie.Need-pointer-to-requires-2
+pointer-to-requires-2 c κs = found-within _ _ _ _ (c .before .before .before .before .before .before .before .before .before .before .pre) (found _ _ _ (rw (c .before .before .l .given .1) at (c .before .before .before .before .get-link-no-gen .ensures))) .1
+
+returns : tie.Need-returns
+returns c = none-found _ _ (rw (c .enum-told .given .1) at (c .before .before .get-link-no-gen .ensures))
+
+returns-2 : tie.Need-returns-2
+returns-2 c = found-link _ _ _ _ _ (found _ _ _ (rw (c .before .before .before .l .given .1) at (c .before .before .before .before .before .get-link-no-gen .ensures))) (c .before .pointer-to .ensures) (c .pointer-to2 .ensures)
+
+pub get-link-spec : {M : Type 1} → statement M
+get-link-spec =
+    tie.close
+    (tie.spec
+    get-link-no-gen-requires
+    enum-told
+    enum-known-l
+    pointer-to-requires
+    pointer-to-requires-2
+    returns
+    returns-2)

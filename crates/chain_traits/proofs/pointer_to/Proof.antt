@@ -1,0 +1,18 @@
+-- `chain_traits::pointer_to` meets its contract: slot 0 has generation 0, and any other slot's is read. Assumes nothing.
+use mathlib.Core.Path.{refl}
+use borrow.Author.Needs.{needs}
+use Rattle.definitions.proofs.Columns.{at-zero}
+use Rattle.chain_traits.proofs.pointer_to.Statement.{statement}
+use Rattle.chain_traits.proofs.pointer_to.Tie as tie
+
+returns : tie.Need-returns
+returns c = rw (c .if1 .taken, at-zero) refl
+
+word-at-requires : tie.Need-word-at-requires
+word-at-requires c κs = search needs
+
+returns-2 : tie.Need-returns-2
+returns-2 c = rw (c .word-at .ensures) refl
+
+pub pointer-to-spec : {M : Type 1} → statement M
+pointer-to-spec = tie.close (tie.spec returns word-at-requires returns-2)

@@ -1,0 +1,2 @@
+pub mod WalkOrder
+pub mod Answers
