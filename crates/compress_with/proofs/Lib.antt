@@ -1,4 +1,3 @@
-pub mod Written
 pub mod Place
 pub mod Numbers
 pub mod Carrying

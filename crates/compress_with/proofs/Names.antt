@@ -4,25 +4,19 @@ use mathlib.Core.Path.{_≡_, refl, sym, ap, _∙_}
 use mathlib.Core.Bool.{Bool, true, false}
 use mathlib.Core.List.{List, [], _∷_, _++_, map}
 use native.Mathlib.Omega.{arith}
-use native.Mathlib.Numerals.{one-add}
-use native.Mathlib.Decide.{ℕ-discrete}
-use lib.ListN.{length, getD, length-map, List·getD-map}
+use lib.ListN.{length, length-map}
 use Rattle.definitions.specs.Columns.{at, slotsFrom, keep, written}
 use Rattle.definitions.specs.Arena.{allocated, linkSlots}
 use Rattle.definitions.specs.Compress.{place}
 use Rattle.definitions.proofs.Tests.{by-test}
-use Rattle.definitions.proofs.Columns.{at-zero, at-suc}
-use Rattle.definitions.proofs.Slots.{allocated-yes, allocated-free, allocated-some, allocated-within, length-slots, keep-parts, links-and-free}
+use Rattle.definitions.proofs.Columns.{at-zero}
+use Rattle.definitions.proofs.Slots.{allocated-yes, allocated-free, allocated-some, allocated-within, length-slots, keep-parts, links-and-free, count-slots-out}
+use Rattle.definitions.proofs.Parts.{at-map, at-own}
 use Rattle.definitions.proofs.Count.{keep-agree, keep-yes, keep-no, in-slots}
+use Rattle.renaming.proofs.Place.{place-none}
 use Rattle.compress_with.specs.Moves.{numbered, Full}
-use Rattle.compress_with.proofs.Written.{length-written, written-front}
-use Rattle.compress_with.proofs.Place.{place-lacks, place-has, place-within, place-before, place-run}
-
-pub slots-at : (s k i d : ℕ) → i < k → getD (slotsFrom s k) i d ≡ s + i
-unfolding slotsFrom
-slots-at s zero i d h = absurd (omega arith)
-slots-at s (suc k) zero d h = omega arith
-slots-at s (suc k) (suc i) d h = slots-at (suc s) k i d (omega arith) ∙ omega arith
+use Rattle.definitions.proofs.Written.{length-written, written-reads}
+use Rattle.compress_with.proofs.Place.{place-lacks, place-has, place-within, place-own}
 
 -- a list of which nothing is left out
 pub keep-all : (test : ℕ → Bool) (xs : List ℕ) → length xs ≤ length (keep test xs) → keep test xs ≡ xs
@@ -54,9 +48,9 @@ module _ (gs : List ℕ) (n : ℕ) (room : n ≤ length gs) where
   unfolding numbered
   numbered-at zero h = at-zero _ ∙ sym zero-lacks
   numbered-at (suc i) h =
-      let front = written-front (map (place w) (slotsFrom 1 n)) gs i (omega (arith, numbers-long)) in
-      let word : getD (map (place w) (slotsFrom 1 n)) i 0 ≡ place w (getD (slotsFrom 1 n) i 0) = rw zero-lacks at (List·getD-map (place w) (slotsFrom 1 n) i 0) in
-      at-suc _ i ∙ (front ∙ (word ∙ ap (place w) (slots-at 1 n i 0 h ∙ one-add i)))
+      let words = map (place w) (slotsFrom 1 n) in
+      written-reads words gs (suc i) (omega (arith, numbers-long))
+      ∙ (at-map (place w) (slotsFrom 1 n) (suc i) (omega arith) (rw (length-slots 1 n) h) ∙ ap (place w) (at-own n (suc i) h))
 
   pub numbered-small : (s : ℕ) → s ≤ n → at (numbered gs n) s ≤ n
   numbered-small s h = rw (numbered-at s h) (omega (arith, place-within w s, links-and-free gs n))
@@ -86,5 +80,5 @@ module _ (gs : List ℕ) (n : ℕ) (room : n ≤ length gs) where
       (numbered-links ∙ all, stays)
     where
       own-place : (s : ℕ) → s ≤ n → place (slotsFrom 1 n) s ≡ s
-      own-place zero h = place-before 0 1 n (omega arith)
-      own-place (suc i) h = place-run (suc i) 1 n (omega arith) (omega arith) ∙ omega arith
+      own-place zero h = place-none (slotsFrom 1 n) 0 (count-slots-out 0 1 n (λ a b. omega arith))
+      own-place (suc i) h = place-own n (suc i) (omega arith) h

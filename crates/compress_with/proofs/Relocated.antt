@@ -15,7 +15,7 @@ use Rattle.definitions.proofs.Count.{In, only-links}
 use Rattle.base_freelist.specs.Popped.{popped}
 use Rattle.base_freelist.proofs.Settled.{settled-over}
 use Rattle.compress_with.specs.Moves.{numbered, Carried, carriedName, Movable, Compressible}
-use Rattle.compress_with.proofs.Written.{written-rest}
+use Rattle.definitions.proofs.Written.{written-rest}
 use Rattle.compress_with.proofs.Carrying.{map-agree}
 use Rattle.compress_with.proofs.Names.{numbered-at, numbered-links, numbered-link, numbered-small, length-numbered, numbers-long}
 
