@@ -1,4 +1,3 @@
-pub mod RefusalChangesNothing
 pub mod Neighbours
 pub mod Edits
 pub mod Header

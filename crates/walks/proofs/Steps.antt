@@ -1,14 +1,12 @@
 -- Laws of the walk, step by step: what it answers at a link and where it goes on. Assumes nothing.
-use Prim.Native.Nat.{ℕ, zero, suc, _+_, _-_, _≤_}
+use Prim.Native.Nat.{ℕ, zero, suc}
 use mathlib.Core.Path.{_≡_, refl, sym, ap, _∙_}
-use mathlib.Core.Bool.{Bool, true, false, cond, not}
-use mathlib.Core.List.{List, [], _∷_, _++_}
+use mathlib.Core.List.{[], _∷_}
 use native.Mathlib.Omega.{arith}
 use native.Mathlib.Numerals.{sub-one}
-use lib.Dec.{eqb}
 use borrow.Author.Tests.{eq-eqb, ne-eqb}
 use Rattle.definitions.specs.Columns.{at}
-use Rattle.definitions.specs.Arena.{Arena, stackLength, isLink}
+use Rattle.definitions.specs.Arena.{Arena, stackLength}
 use Rattle.definitions.specs.Walk.{Walk, walk, onward, step, walked}
 use Rattle.definitions.proofs.Columns.{at-zero}
 use Rattle.definitions.proofs.Slots.{allocated-free}

@@ -1,12 +1,11 @@
 -- The walk from a link gives its chain, each link once, in the paper's order, then none. The links after the start are a run along next; those before
 -- it, backwards, are a run along prev; and since no link comes twice, the advances left, which begin at the link count, last. Assumes nothing.
-use Prim.Native.Nat.{ℕ, zero, suc, _+_, _-_, _≤_}
+use Prim.Native.Nat.{ℕ, suc, _+_, _-_, _≤_}
 use mathlib.Core.Path.{_≡_, refl, sym, ap, subst, _∙_}
-use mathlib.Core.Bool.{true}
 use mathlib.Core.List.{List, [], _∷_, _++_, reverse, reverseAux}
 use native.Mathlib.Omega.{arith}
 use native.Mathlib.Nat.{zero-add}
-use lib.ListN.{length, length-append, length-reverse}
+use lib.ListN.{length, length-append}
 use Rattle.definitions.specs.Columns.{at, count, firstOr}
 use Rattle.definitions.specs.Arena.{Arena, stackLength, linkCount, linkSlots}
 use Rattle.definitions.specs.Chains.{Linked, Kind, opened, closed, IsOpen, IsClosed, IsChain}
@@ -17,8 +16,8 @@ use Rattle.definitions.proofs.Count.{In, Once, in-here, in-there, in-split, in-
 use Rattle.definitions.proofs.LinkCount.{in-links}
 use Rattle.definitions.proofs.Linked.{first-append, linked-split}
 use Rattle.chains.proofs.Links.{Link, AllLinks, DoublyLinked, well-formed-linked, link-nonzero, links-first, prev-of-next}
-use Rattle.chains.proofs.Find.{ChainOf, chainFrom, chain-of, opened≢closed}
-use Rattle.walks.specs.WalkOrder.{WalkOrder, Walks}
+use Rattle.chains.proofs.Find.{chainFrom, chain-of, opened≢closed}
+use Rattle.walks.specs.WalkOrder.{Walks}
 use Rattle.walks.proofs.Steps.{over, ahead, turns, closes, behind}
 
 module _ (a : Arena) (o : ℕ) where
