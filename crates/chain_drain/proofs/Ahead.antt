@@ -11,7 +11,7 @@ use borrow.Author.Tests.{eq-eqb, ne-eqb, lt-ltb, le-ltb, ltb-true, ltb-false}
 use Rattle.definitions.specs.Arena.{Arena}
 use Rattle.definitions.specs.Walk.{Walk, Stepped, step, walked}
 use Rattle.definitions.proofs.Tests.{by-test}
-use Rattle.walks.proofs.Walked.{Answered, Ended, answered-or-ended, ended-stays, onward-left}
+use Rattle.walks.proofs.AnyState.{Answered, Ended, answered-or-ended, ended-stays, onward-left}
 use Rattle.chain_drain.specs.Items.{slotsAhead}
 
 -- no walk answers more slots than it makes steps
