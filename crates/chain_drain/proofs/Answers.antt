@@ -19,12 +19,13 @@ use Rattle.definitions.proofs.Tests.{by-test}
 use Rattle.chain_iterators.specs.Walk.{walkOf, startReply}
 use Rattle.chain_iterators.specs.declared.ChainPtrAdvancer.{ChainPtrAdvancer}
 use Rattle.chain_iterators.specs.declared.Started.the-variants.{At, Stale as StaleStart}
+use Rattle.drains.specs.Drainable.{Drainable}
 use Rattle.drains.specs.Report.{itemSlots}
 use Rattle.drains.proofs.Report.{length-items, length-drained}
 use Rattle.walks.proofs.Walks.{walk-gives-chain}
 use Rattle.chain_drain.specs.declared.Drained.the-variants.{Done, Stale, Short}
 use Rattle.chain_drain.specs.Drained.{drainReply}
-use Rattle.chain_drain.specs.Items.{slotsAhead, Listed, Drainable, ItemsDrained}
+use Rattle.chain_drain.specs.Items.{slotsAhead, Listed, ItemsDrained}
 
 -- a report that is not too short has room
 pub has-room : (room words : ℕ) (r : Bool) → r ≡ ltb room words → r ≡ false → words ≤ room

@@ -11,13 +11,14 @@ use borrow.Author.Tests.{ne-eqb, eqb-true}
 use Rattle.definitions.specs.Columns.{written}
 use Rattle.definitions.specs.Arena.{Arena, stackLength, isLink}
 use Rattle.definitions.specs.Remove.{removed, removedAll, drainItems, overflowItem}
-use Rattle.definitions.proofs.Count.{in-here, in-there, once-rest, once-first}
+use Rattle.definitions.proofs.Count.{in-here}
 use Rattle.definitions.proofs.Slots.{allocated-within}
 use Rattle.definitions.proofs.Tests.{by-test}
-use Rattle.kept.proofs.Removal.{removed-keeps, removed-other}
+use Rattle.drains.specs.Drainable.{Drainable}
 use Rattle.drains.specs.Report.{itemSlots}
+use Rattle.drains.proofs.Drainable.{drainable-rest}
 use Rattle.drains.proofs.Report.{length-items, items-from, length-drained}
-use Rattle.chain_drain.specs.Items.{Drainable, ItemDrained, ItemsDrained, itemWords}
+use Rattle.chain_drain.specs.Items.{ItemDrained, ItemsDrained, itemWords}
 use Rattle.chain_drain.proofs.Listing.{drop-later}
 use Rattle.chain_drain.proofs.Items.{overwritten-front, overwritten-back, overwritten-length}
 
@@ -140,14 +141,6 @@ module _ (limit top : ℕ) (a₀ : Arena) (old : List ℕ) (items : ℕ) (a : Ar
       gone : b ≡ removed top a s
       gone = drained .taken .arena
 
-      rest : Drainable limit (removed top a s) others
-      rest =
-          record {
-            arena = removed-keeps limit top a (can .arena) s next-link;
-            links = λ x i. removed-other limit top a (can .arena) s x next-link (can .links x (in-there x s others i)) (λ e. once-first s others (can .once) (rw (← e) i));
-            once = once-rest s others (can .once);
-          }
-
       pub draining-goes-on : AsLong b a → Draining limit top a₀ old items b words (item + 1) (cond (eqb known 0) (cond over (item + 1) 0) known)
       unfolding removedAll drainItems overflowItem
       draining-goes-on long =
@@ -163,7 +156,7 @@ module _ (limit top : ℕ) (a₀ : Arena) (old : List ℕ) (items : ℕ) (a : Ar
               payload = long .payload ∙ was .payload;
               header = long .header ∙ was .header;
             };
-            rest = rw (same, gone) rest;
+            rest = rw (same, gone) (drainable-rest limit top a s others can);
             arena = rw (same, gone) (rw here at (d .arena));
             words = rw (added, same, gone, past) (append-assoc (take (5 * item) new) (itemWords a s) _ ∙ (rw here at (d .words)));
             overflow = rw (same, gone) (overflow-on known item over _ ∙ (rw (here, ← drained .taken .overflowed) at (d .overflow)));

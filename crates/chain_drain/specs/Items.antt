@@ -1,12 +1,11 @@
 -- What the steps of a drain ask and leave.
-use Prim.Native.Nat.{ℕ, _+_, _*_, _≤_}
+use Prim.Native.Nat.{ℕ, _+_, _*_}
 use mathlib.Core.Path.{_≡_}
-use mathlib.Core.Bool.{Bool, true}
+use mathlib.Core.Bool.{Bool}
 use mathlib.Core.List.{List, [], _∷_, _++_}
 use lib.ListN.{length, take, drop}
-use Rattle.definitions.specs.Columns.{at, count, written}
-use Rattle.definitions.specs.Arena.{Arena, isLink}
-use Rattle.definitions.specs.Check.{WellFormed}
+use Rattle.definitions.specs.Columns.{at, written}
+use Rattle.definitions.specs.Arena.{Arena}
 use Rattle.definitions.specs.Walk.{Walk, walked}
 use Rattle.definitions.specs.Remove.{removedAll, drainItems, overflowItem}
 use Rattle.base_removal.specs.Removal.{TakenOut}
@@ -34,12 +33,6 @@ overwritten i ws old = (take i old ++ ws) ++ drop (i + length ws) old
 pub record ItemDrained (top : ℕ) (a : Arena) (s i : ℕ) (old : List ℕ) (left : Arena) (new : List ℕ) (overflow : Bool) : Type 0 where
   pub taken : TakenOut top a s left overflow
   pub report : new ≡ overwritten i (itemWords a s) old
-
--- slots that can be drained one after the other: different links of a well formed arena
-pub record Drainable (limit : ℕ) (a : Arena) (ss : List ℕ) : Type 0 where
-  pub arena : WellFormed limit a
-  pub links : (s : ℕ) → 1 ≤ count s ss → isLink a s ≡ true
-  pub once : (s : ℕ) → count s ss ≤ 1
 
 -- the slots ss became the items of the report
 pub record ItemsDrained (top : ℕ) (a : Arena) (ss old : List ℕ) (left : Arena) (new : List ℕ) (item : ℕ) : Type 0 where

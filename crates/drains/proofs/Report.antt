@@ -56,3 +56,9 @@ pub length-drained : (top : ℕ) (a : Arena) (ss : List ℕ) → length (drainIt
 unfolding drainItems
 length-drained top a [] = refl
 length-drained top a (s ∷ ss) = omega (arith, length-drained top (removed top a s) ss)
+
+-- its items name the links in their order, whatever follows
+pub items-drained : (top : ℕ) (a : Arena) (ss rest : List ℕ) → itemSlots (length ss) (drainItems top a ss ++ rest) ≡ ss
+unfolding itemSlots drainItems
+items-drained top a [] rest = refl
+items-drained top a (s ∷ ss) rest = ap (λ (l : List ℕ). s ∷ l) (items-drained top (removed top a s) ss rest)
