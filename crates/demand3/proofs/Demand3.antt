@@ -20,12 +20,8 @@
 -- (LayChains, Equivalence); laying out any order is a one-to-one renaming (crate `renaming`); its pieces are the chains of the order (Pieces); and the
 -- canonical order of what is left is 1 to n (Again). Assumes nothing.
 use Prim.Native.Nat.{ℕ}
-use mathlib.Core.Path.{_≡_}
-use mathlib.Core.Bool.{Bool}
-use mathlib.Core.List.{List}
-use Rattle.definitions.specs.Arena.{Arena, capacityLimit, largestGeneration}
-use Rattle.definitions.specs.Check.{verdict, WellFormed}
-use Rattle.definitions.specs.Demand3.{Further, compress, Demand3}
+use Rattle.definitions.specs.Arena.{capacityLimit, largestGeneration}
+use Rattle.definitions.specs.Demand3.{Demand3}
 use Rattle.chains.proofs.Listings.{listings-pair}
 use Rattle.demand3.proofs.Accepted.{done-accepted}
 use Rattle.demand3.proofs.OneCompression.{one-compression}

@@ -1,16 +1,14 @@
 -- Two arenas whose compressed slots agree in next and payload hold the same chains of payloads: the same slots are cut into the same pieces, and piece by
 -- piece the payloads are the same. Assumes nothing.
-use Prim.Native.Nat.{ℕ, zero, suc, _+_, _≤_, _<_}
+use Prim.Native.Nat.{ℕ, zero, suc, _≤_, _<_}
 use mathlib.Core.Path.{_≡_, refl, sym, ap, subst, _∙_}
 use mathlib.Core.Logic.{_≢_}
-use mathlib.Core.Bool.{cond}
 use mathlib.Core.List.{List, [], _∷_, map}
 use native.Mathlib.Omega.{arith}
 use lib.ListN.{length, length-map}
 use Rattle.definitions.specs.Columns.{at, lastOr, slotsFrom}
 use Rattle.definitions.specs.Arena.{Arena, linkCount}
-use Rattle.definitions.specs.Chains.{Chain, Alike, Kind, nth, extended, cut, marked, pieces, replaced, Paired, HoldTheSame}
-use Rattle.definitions.specs.Check.{WellFormed}
+use Rattle.definitions.specs.Chains.{Chain, Alike, nth, cut, marked, pieces, replaced, Paired, HoldTheSame}
 use Rattle.definitions.specs.Compress.{relocate}
 use Rattle.definitions.specs.Demand3.{Agree, Compressed}
 use Rattle.definitions.proofs.Count.{In, in-here, in-there, in-slots}
@@ -19,10 +17,10 @@ use Rattle.chains.proofs.Links.{DoublyLinked, well-formed-linked}
 use Rattle.chains.proofs.OneChain.{chain-some}
 use Rattle.chains.proofs.Listings.{like-refl}
 use Rattle.renaming.proofs.Relocated.{new-payload}
-use Rattle.demand3.proofs.Order.{canonicalOrder, canonicalChains, canonical-order, canonical-size}
+use Rattle.demand3.proofs.Order.{canonicalOrder, canonicalChains, canonical-order}
 use Rattle.demand3.proofs.Pieces.{Match, match-nil, match-cons, PieceOf}
 use Rattle.demand3.proofs.PiecesAreChains.{canonical-pieces, pieces-are-chains}
-use Rattle.demand3.proofs.Accepted.{Left, what-is-left}
+use Rattle.demand3.proofs.Accepted.{what-is-left}
 
 -- ---- two ways to go on that agree cut and mark alike
 

@@ -1,8 +1,7 @@
 -- After a canonical compression no list of further ones moves a link: the canonical order is 1 to n, and a renaming by 1 to n changes no word. What one call
 -- keeps, the next one needs, so that it is one claim about the whole list, refused calls included. Assumes nothing.
-use Prim.Native.Nat.{ℕ, zero, suc, _+_, _≤_, _<_}
+use Prim.Native.Nat.{ℕ, _≤_}
 use mathlib.Core.Path.{_≡_, refl, sym, ap, subst, _∙_}
-use mathlib.Core.Logic.{_≢_, _⊎_}
 use mathlib.Core.List.{List, [], _∷_, map}
 use native.Mathlib.Omega.{arith}
 use native.Mathlib.Decide.{ℕ-discrete}
@@ -13,7 +12,7 @@ use Rattle.definitions.specs.Chains.{Renaming}
 use Rattle.definitions.specs.Check.{verdict, WellFormed}
 use Rattle.definitions.specs.Reply.{Reply}
 use Rattle.definitions.specs.Compress.{compressGeneration, relocate}
-use Rattle.definitions.specs.Calls.{Made, repliesTo, arenaAfter}
+use Rattle.definitions.specs.Calls.{repliesTo, arenaAfter}
 use Rattle.definitions.specs.Demand3.{Accepted, Every, Agree, Further, made, compress, Compressed, Unmoved}
 use Rattle.definitions.proofs.Parts.{at-own, take-settled}
 use Rattle.well_formed.proofs.WellFormed.{passes-if-well-formed}
@@ -22,7 +21,7 @@ use Rattle.renaming.proofs.Relocated.{new-stack, new-count, new-root, any-order
 use Rattle.renaming.proofs.CompressWith.{compress-generation-two}
 use Rattle.demand3.proofs.Order.{canonicalOrder, canonical-order, canonical-size}
 use Rattle.demand3.proofs.Again.{again-moves-nothing}
-use Rattle.demand3.proofs.Accepted.{reply-done, reply-fourteen, fourteen-refused, Left, what-is-left}
+use Rattle.demand3.proofs.Accepted.{reply-done, reply-fourteen, fourteen-refused, what-is-left}
 
 -- the same words
 agree-refl : (b : Arena) (n : ℕ) → Agree b b n
