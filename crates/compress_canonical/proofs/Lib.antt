@@ -1,0 +1,2 @@
+pub mod Traded
+pub mod InPlace

@@ -1,0 +1,21 @@
+-- The columns as the code has them, against the slots as the definition has them.
+use Prim.Native.Nat.{ℕ}
+use mathlib.Core.Path.{_≡_}
+use mathlib.Core.Bool.{true, false}
+use mathlib.Core.List.{List}
+use lib.ListN.{length}
+use Rattle.definitions.specs.Columns.{at}
+use Rattle.definitions.specs.Arena.{Arena, stackLength, isLink}
+
+-- the columns hold the links that are in the slots b now: their words are those of b, and ws says who is in a slot, as from does, 0 where nobody is.
+-- Words of free slots are not the code's business, nor are words past the stack: the code is lent the columns up to the stack length
+pub record Held (b : Arena) (from ps ns vs ws : List ℕ) : Type 0 where
+  pub prev-long : length ps ≡ stackLength b
+  pub next-long : length ns ≡ stackLength b
+  pub payload-long : length vs ≡ stackLength b
+  pub from-long : length ws ≡ stackLength b
+  pub prev : (s : ℕ) → isLink b s ≡ true → at ps s ≡ at (b .prev) s
+  pub next : (s : ℕ) → isLink b s ≡ true → at ns s ≡ at (b .next) s
+  pub payload : (s : ℕ) → isLink b s ≡ true → at vs s ≡ at (b .payload) s
+  pub who : (s : ℕ) → isLink b s ≡ true → at ws s ≡ at from s
+  pub nobody : (s : ℕ) → isLink b s ≡ false → at ws s ≡ 0

@@ -1,0 +1,97 @@
+// Canonical compression (`compress_canonical` of chain/impl_chain_arena_trait.rs) in the lent columns, with no memory beyond them.
+ghost use mathlib.Core.Path.{_≡_};
+ghost use mathlib.Core.List.{List};
+ghost use Prim.Native.Nat.{ℕ, _+_, _≤_, _<_};
+ghost use lib.ListN.{length};
+ghost use Rattle.definitions.specs.Columns.{at, put};
+ghost use Rattle.definitions.specs.Arena.{Arena};
+ghost use Rattle.definitions.specs.Compress.{exchangeWords, exchangeSlots};
+ghost use Rattle.compress_canonical.specs.Exchange.{Inside, Around, InReach, Exchanged};
+use base_removal::put_at;
+use chain_traits::slot_at;
+use ptr::Slot;
+
+// The neighbours of the two that exchange slots: of the link that is moved, and of what is where it goes.
+pub struct Neighbours {
+    pub prev0: Slot,
+    pub next0: Slot,
+    pub prev1: Slot,
+    pub next1: Slot,
+}
+
+// Exchanges the words of slots i and t of a column of slots.
+fn trade_slots(column: &mut [u16], i: Slot, t: Slot)
+    requires { ⌜ Inside (now column) (i .0) (t .0) ⌝ }
+    ensures { λ _. ⌜ now (column .exit) ≡ exchangeWords (i .0) (t .0) (now (column .entry)) ⌝ }
+{
+    let a = i.0 as usize - 1;
+    let b = t.0 as usize - 1;
+    let kept = column[a];
+    column[a] = column[b];
+    column[b] = kept;
+}
+
+// Exchanges the words of slots i and t of the payload column.
+fn trade_words(column: &mut [u32], i: Slot, t: Slot)
+    requires { ⌜ Inside (now column) (i .0) (t .0) ⌝ }
+    ensures { λ _. ⌜ now (column .exit) ≡ exchangeWords (i .0) (t .0) (now (column .entry)) ⌝ }
+{
+    let a = i.0 as usize - 1;
+    let b = t.0 as usize - 1;
+    let kept = column[a];
+    column[a] = column[b];
+    column[b] = kept;
+}
+
+// In one column of neighbours: the two words that name the moved ones get the new slots, then the two slots are exchanged.
+fn settle(column: &mut [u16], named0: Slot, named1: Slot, i: Slot, t: Slot)
+    requires { ⌜ Inside (now column) (i .0) (t .0) × (named0 .0 ≤ length (now column)) × (named1 .0 ≤ length (now column)) ⌝ }
+    ensures { λ _. ⌜ now (column .exit) ≡ exchangeWords (i .0) (t .0) (put (put (now (column .entry)) (named0 .0) (i .0)) (named1 .0) (t .0)) ⌝ }
+{
+    put_at(&mut *column, named0, i);
+    put_at(&mut *column, named1, t);
+    trade_slots(&mut *column, i, t);
+}
+
+// The neighbours of the link in slot t, and of who is in slot i.
+fn read_neighbours(prev: &[u16], next: &[u16], where_from: &[u16], i: Slot, t: Slot) -> Neighbours
+    requires { ⌜ Inside (now prev) (i .0) (t .0) × Inside (now next) (i .0) (t .0) × Inside (now «where_from») (i .0) (t .0) ⌝ }
+    ensures { λ r. ⌜ Around (now (prev .entry)) (now (next .entry)) (now («where_from» .entry)) (i .0) (t .0) r ⌝ }
+{
+    let prev0 = slot_at(prev, t);
+    let next0 = slot_at(next, t);
+    if slot_at(where_from, i).0 == 0 {
+        return Neighbours {
+            prev0: prev0,
+            next0: next0,
+            prev1: Slot(0),
+            next1: Slot(0),
+        };
+    }
+    Neighbours {
+        prev0: prev0,
+        next0: next0,
+        prev1: slot_at(prev, i),
+        next1: slot_at(next, i),
+    }
+}
+
+// Exchanges the link in slot t with what is in slot i. All neighbours are read before any of them is written.
+fn exchange(
+    prev: &mut [u16],
+    next: &mut [u16],
+    payload: &mut [u32],
+    where_from: &mut [u16],
+    i: Slot,
+    t: Slot,
+)
+    requires { ⌜ InReach (now prev) (now next) (now payload) (now «where_from») (i .0) (t .0) ⌝ }
+    ensures { λ _. ⌜ Exchanged (now (prev .entry)) (now (next .entry)) (now (payload .entry)) (now («where_from» .entry))
+        (now (prev .exit)) (now (next .exit)) (now (payload .exit)) (now («where_from» .exit)) (i .0) (t .0) ⌝ }
+{
+    let around = read_neighbours(prev, next, where_from, i, t);
+    settle(prev, around.next0, around.next1, i, t);
+    settle(next, around.prev0, around.prev1, i, t);
+    trade_slots(where_from, i, t);
+    trade_words(payload, i, t);
+}
