@@ -1,2 +1,3 @@
 pub mod Traded
 pub mod InPlace
+pub mod Search

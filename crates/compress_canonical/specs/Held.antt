@@ -1,11 +1,13 @@
 -- The columns as the code has them, against the slots as the definition has them.
 use Prim.Native.Nat.{ℕ}
 use mathlib.Core.Path.{_≡_}
+use mathlib.Core.Logic.{_≢_}
 use mathlib.Core.Bool.{true, false}
 use mathlib.Core.List.{List}
 use lib.ListN.{length}
 use Rattle.definitions.specs.Columns.{at}
 use Rattle.definitions.specs.Arena.{Arena, stackLength, isLink}
+use Rattle.chains.proofs.Links.{DoublyLinked}
 
 -- the columns hold the links that are in the slots b now: their words are those of b, and ws says who is in a slot, as from does, 0 where nobody is.
 -- Words of free slots are not the code's business, nor are words past the stack: the code is lent the columns up to the stack length
@@ -19,3 +21,16 @@ pub record Held (b : Arena) (from ps ns vs ws : List ℕ) : Type 0 where
   pub payload : (s : ℕ) → isLink b s ≡ true → at vs s ≡ at (b .payload) s
   pub who : (s : ℕ) → isLink b s ≡ true → at ws s ≡ at from s
   pub nobody : (s : ℕ) → isLink b s ≡ false → at ws s ≡ 0
+
+-- the column, as long as the stack, has a word exactly where a link is
+pub record Occupied (b : Arena) (ws : List ℕ) : Type 0 where
+  pub long : length ws ≡ stackLength b
+  pub somebody : (s : ℕ) → isLink b s ≡ true → at ws s ≢ 0
+  pub nobody : (s : ℕ) → isLink b s ≡ false → at ws s ≡ 0
+
+-- from the link in slot o the column leads back along prev
+pub record Rooted (b : Arena) (ps : List ℕ) (o : ℕ) : Type 0 where
+  pub long : length ps ≡ stackLength b
+  pub linked : DoublyLinked b
+  pub same : (s : ℕ) → isLink b s ≡ true → at ps s ≡ at (b .prev) s
+  pub link : isLink b o ≡ true

@@ -4,9 +4,10 @@ ghost use mathlib.Core.List.{List};
 ghost use Prim.Native.Nat.{ℕ, _+_, _≤_, _<_};
 ghost use lib.ListN.{length};
 ghost use Rattle.definitions.specs.Columns.{at, put};
-ghost use Rattle.definitions.specs.Arena.{Arena};
-ghost use Rattle.definitions.specs.Compress.{exchangeWords, exchangeSlots};
+ghost use Rattle.definitions.specs.Arena.{Arena, capacityLimit, stackLength};
+ghost use Rattle.definitions.specs.Compress.{exchangeWords, lowestFrom, startOf};
 ghost use Rattle.compress_canonical.specs.Exchange.{Inside, Around, InReach, Exchanged};
+ghost use Rattle.compress_canonical.specs.Held.{Occupied, Rooted};
 use base_removal::put_at;
 use chain_traits::slot_at;
 use ptr::Slot;
@@ -94,4 +95,40 @@ fn exchange(
     settle(next, around.prev0, around.prev1, i, t);
     trade_slots(where_from, i, t);
     trade_words(payload, i, t);
+}
+
+// The lowest slot after the first `from` in which somebody is, none if there is none. Somebody is where the column has a word.
+fn lowest_link(where_from: &[u16], from: usize) -> Slot
+    requires { ⌜ (from ≤ length (now «where_from»)) × (length (now «where_from») ≤ capacityLimit) ⌝ }
+    ensures { λ r. ⌜ ((a : Arena) → Occupied a (now («where_from» .entry)) → r .0 ≡ lowestFrom a (from + 1)) ⌝ }
+{
+    let mut s = from;
+    while s < where_from.len() {
+        if where_from[s] != 0 {
+            return Slot((s + 1) as u16);
+        }
+        s += 1;
+    }
+    Slot(0)
+}
+
+// The start of the chain of the link in slot o: back along prev until there is none. Slot o itself if the chain is closed.
+fn start_of(prev: &[u16], o: Slot) -> Slot
+    requires { ⌜ ((b : Arena) × Rooted b (now prev) (o .0)) ⌝ }
+    ensures { λ r. ⌜ ((b : Arena) → Rooted b (now (prev .entry)) (o .0) → r .0 ≡ startOf b (stackLength b) (o .0) (o .0)) ⌝ }
+{
+    let mut s = o;
+    let mut left = prev.len();
+    while left != 0 {
+        let before = slot_at(prev, s);
+        if before.0 == 0 {
+            return s;
+        }
+        if before.0 == o.0 {
+            return o;
+        }
+        s = before;
+        left -= 1;
+    }
+    o
 }
