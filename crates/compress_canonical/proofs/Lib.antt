@@ -1,3 +1,4 @@
 pub mod Traded
 pub mod InPlace
 pub mod Search
+pub mod Marks

@@ -1,5 +1,5 @@
 -- The columns as the code has them, against the slots as the definition has them.
-use Prim.Native.Nat.{ℕ}
+use Prim.Native.Nat.{ℕ, _≤_}
 use mathlib.Core.Path.{_≡_}
 use mathlib.Core.Logic.{_≢_}
 use mathlib.Core.Bool.{true, false}
@@ -21,6 +21,11 @@ pub record Held (b : Arena) (from ps ns vs ws : List ℕ) : Type 0 where
   pub payload : (s : ℕ) → isLink b s ≡ true → at vs s ≡ at (b .payload) s
   pub who : (s : ℕ) → isLink b s ≡ true → at ws s ≡ at from s
   pub nobody : (s : ℕ) → isLink b s ≡ false → at ws s ≡ 0
+
+-- up to slot k each link's own slot stands in the column, and 0 for a free slot
+pub record Marked (gs : List ℕ) (k : ℕ) (ws : List ℕ) : Type 0 where
+  pub link : (s : ℕ) → s ≤ k → at gs s ≢ 0 → at ws s ≡ s
+  pub free : (s : ℕ) → s ≤ k → at gs s ≡ 0 → at ws s ≡ 0
 
 -- the column, as long as the stack, has a word exactly where a link is
 pub record Occupied (b : Arena) (ws : List ℕ) : Type 0 where

@@ -1,13 +1,15 @@
 // Canonical compression (`compress_canonical` of chain/impl_chain_arena_trait.rs) in the lent columns, with no memory beyond them.
 ghost use mathlib.Core.Path.{_≡_};
+ghost use mathlib.Core.Bool.{cond};
 ghost use mathlib.Core.List.{List};
 ghost use Prim.Native.Nat.{ℕ, _+_, _≤_, _<_};
+ghost use lib.Dec.{eqb};
 ghost use lib.ListN.{length};
 ghost use Rattle.definitions.specs.Columns.{at, put};
 ghost use Rattle.definitions.specs.Arena.{Arena, capacityLimit, stackLength};
 ghost use Rattle.definitions.specs.Compress.{exchangeWords, lowestFrom, startOf};
 ghost use Rattle.compress_canonical.specs.Exchange.{Inside, Around, InReach, Exchanged};
-ghost use Rattle.compress_canonical.specs.Held.{Occupied, Rooted};
+ghost use Rattle.compress_canonical.specs.Held.{Occupied, Rooted, Marked};
 use base_removal::put_at;
 use chain_traits::slot_at;
 use ptr::Slot;
@@ -131,4 +133,27 @@ fn start_of(prev: &[u16], o: Slot) -> Slot
         left -= 1;
     }
     o
+}
+
+// Who is at place s at the start: the link in its own slot, nobody where the slot is free.
+fn occupant(generation: u32, s: usize) -> u16
+    requires { ⌜ s < capacityLimit ⌝ }
+    ensures { λ r. ⌜ r ≡ cond (eqb generation 0) 0 (s + 1) ⌝ }
+{
+    if generation == 0 {
+        return 0;
+    }
+    (s + 1) as u16
+}
+
+// Puts each link's own slot into the where-from column, and 0 for a free slot. From now on the column says who is in a slot, and whether anybody is.
+fn mark_links(where_from: &mut [u16], generation: &[u32])
+    requires { ⌜ (length (now «where_from») ≡ length (now generation)) × (length (now generation) ≤ capacityLimit) ⌝ }
+    ensures { λ _. ⌜ Marked (now (generation .entry)) (length (now (generation .entry))) (now («where_from» .exit)) ⌝ }
+{
+    let mut s: usize = 0;
+    while s < where_from.len() {
+        where_from[s] = occupant(generation[s], s);
+        s += 1;
+    }
 }
