@@ -6,7 +6,7 @@ ghost use lib.ListN.{length};
 ghost use lib.Dec.{eqb};
 ghost use Rattle.definitions.specs.Arena.{arena};
 ghost use Rattle.definitions.specs.Check.{namesBack, neighboursFine, allFine};
-ghost use Rattle.chain_arena.specs.Checked.{Checks};
+ghost use Rattle.chain_arena.specs.Checked.{checkedNumber, brokenSlot, Checks};
 use base_arena::counts;
 use base_arena::shape;
 use ptr::Slot;
@@ -16,6 +16,30 @@ pub enum Checked {
     Passed,
     Refused(u32),
     Broken(Slot),
+}
+
+impl Checked {
+    // Document 01's number for the answer.
+    pub fn number(self) -> u32
+        ensures { λ r. ⌜ r ≡ checkedNumber self ⌝ }
+    {
+        match self {
+            Checked::Passed => 0,
+            Checked::Refused(k) => k,
+            Checked::Broken(_) => 11,
+        }
+    }
+
+    // The slot that 11 names, else 0.
+    pub fn broken(self) -> u32
+        ensures { λ r. ⌜ r ≡ brokenSlot self ⌝ }
+    {
+        match self {
+            Checked::Passed => 0,
+            Checked::Refused(_) => 0,
+            Checked::Broken(s) => s.0 as u32,
+        }
+    }
 }
 
 // Whether the neighbour s of slot x is none, or is a link that names x in the column back.

@@ -1,9 +1,9 @@
 -- The chain of a link, found: back along prev to its start, or round to the link itself; then along next to the end. Both walks visit different links,
 -- so they end before they have made as many steps as the stack is long. Assumes nothing.
-use Prim.Native.Nat.{ℕ, zero, suc, _+_, _≤_, _<_}
+use Prim.Native.Nat.{ℕ, zero, suc, _+_, _≤_}
 use mathlib.Core.Path.{_≡_, refl, sym, ap, subst, _∙_}
 use mathlib.Core.Logic.{_≢_, _⊎_, inl, inr}
-use mathlib.Core.Bool.{Bool, true, false, _||_}
+use mathlib.Core.Bool.{true, false, _||_}
 use mathlib.Core.List.{List, [], _∷_, _++_, append-assoc, cons≢nil, concat-ne-nil}
 use native.Mathlib.Omega.{arith}
 use native.Mathlib.Decide.{ℕ-discrete, decLe}
@@ -15,10 +15,10 @@ use Rattle.definitions.specs.Arena.{Arena, stackLength}
 use Rattle.definitions.specs.Chains.{Linked, Kind, opened, closed, IsOpen, IsClosed, IsChain}
 use Rattle.definitions.specs.Compress.{startOf}
 use Rattle.definitions.proofs.Slots.{count-here, count-append}
-use Rattle.definitions.proofs.Count.{In, Once, in-here, in-there, in-left, in-right, in-split, once-one, once-cons, once-snoc}
+use Rattle.definitions.proofs.Count.{In, Once, in-here, in-left, in-right, in-split, once-one, once-cons, once-snoc}
 use Rattle.definitions.proofs.Linked.{first-append, in-first, linked-join, linked-split, end-follows}
 use Rattle.chains.proofs.Runs.{linked-nil, linked-one, closes-at-end, follows-in}
-use Rattle.chains.proofs.Links.{Link, AllLinks, DoublyLinked, link-nonzero, links-nil, links-cons, links-snoc, links-one, links-first, few-links, prev-of-next}
+use Rattle.chains.proofs.Links.{Link, AllLinks, DoublyLinked, link-nonzero, links-cons, links-snoc, links-one, links-first, few-links, prev-of-next}
 use Rattle.chains.proofs.OneChain.{open-run, closed-run, closed-next, forward}
 
 -- ---- the two walks, step by step

@@ -1,6 +1,6 @@
 -- Doubly linked arenas: what rule 11 of the check says of links, and all that the theory of chains needs of an arena. Assumes nothing.
-use Prim.Native.Nat.{ℕ, zero, suc, _+_, _≤_, _<_}
-use mathlib.Core.Path.{_≡_, refl, sym, ap, _∙_}
+use Prim.Native.Nat.{ℕ, _≤_}
+use mathlib.Core.Path.{_≡_, refl, sym, _∙_}
 use mathlib.Core.Logic.{_≢_, inl, inr}
 use mathlib.Core.Bool.{true}
 use mathlib.Core.List.{List, [], _∷_, _++_}
@@ -10,7 +10,7 @@ use Rattle.definitions.specs.Columns.{at, count, firstOr}
 use Rattle.definitions.specs.Arena.{Arena, stackLength, isLink}
 use Rattle.definitions.specs.Check.{Neighbour, WellFormed}
 use Rattle.definitions.proofs.Slots.{allocated-some, allocated-within}
-use Rattle.definitions.proofs.Count.{In, Once, in-here, in-cases, in-only, in-append, in-there, not-in-nil, none-of, pigeonhole}
+use Rattle.definitions.proofs.Count.{In, Once, in-here, in-cases, in-only, in-append, not-in-nil, none-of, pigeonhole}
 
 -- slot s of the arena is a link; all of a list are
 abbrev pub Link : Arena → ℕ → Type 0

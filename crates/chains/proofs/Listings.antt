@@ -1,12 +1,12 @@
 -- Every link is on exactly one chain; the chains can be listed; and any two listings of one arena's chains pair up, like with like. Assumes nothing.
 use Prim.Native.Nat.{ℕ, zero, suc, _+_, _≤_, _<_}
 use mathlib.Core.Path.{_≡_, refl, sym, ap, subst, _∙_}
-use mathlib.Core.Logic.{_≢_, _⊎_, inl, inr}
-use mathlib.Core.List.{List, [], _∷_, _++_, map, flatten, append-nil}
+use mathlib.Core.Logic.{_⊎_, inl, inr}
+use mathlib.Core.List.{List, [], _∷_, map, flatten, append-nil}
 use native.Mathlib.Omega.{arith}
-use native.Mathlib.Decide.{ℕ-discrete, decLe, decLt}
-use lib.ListN.{length, getD}
-use Rattle.definitions.specs.Columns.{at, count, firstOr}
+use native.Mathlib.Decide.{decLe, decLt}
+use lib.ListN.{length}
+use Rattle.definitions.specs.Columns.{count, firstOr}
 use Rattle.definitions.specs.Arena.{Arena, stackLength, linkSlots}
 use Rattle.definitions.specs.Check.{WellFormed}
 use Rattle.definitions.specs.Chains.{Kind, opened, closed, IsChain, Rotation, Like, Chain, Alike, nth, Listing, OnOneChain, Paired}

@@ -1,6 +1,6 @@
 -- Two chains of a doubly linked arena that share a link are the same chain. Back along prev from the shared link, the first of the one is a link of
 -- the other; from there on next decides. Assumes nothing.
-use Prim.Native.Nat.{ℕ, zero, suc, _+_, _≤_, _<_}
+use Prim.Native.Nat.{ℕ, _≤_}
 use mathlib.Core.Path.{_≡_, refl, sym, ap, _∙_}
 use mathlib.Core.Logic.{_≢_, _⊎_, inl, inr}
 use mathlib.Core.List.{List, [], _∷_, _++_}
@@ -13,7 +13,7 @@ use Rattle.definitions.specs.Chains.{Linked, Kind, opened, closed, IsOpen, IsCl
 use Rattle.definitions.proofs.Slots.{count-here, count-append}
 use Rattle.definitions.proofs.Count.{In, in-here, in-there, in-split, in-left, not-in-nil}
 use Rattle.definitions.proofs.Linked.{first-append, in-first, linked-join, linked-split, next-in, follows, end-follows, same-run}
-use Rattle.chains.proofs.Runs.{first-some, linked-first, linked-rest}
+use Rattle.chains.proofs.Runs.{first-some}
 use Rattle.chains.proofs.Links.{Link, AllLinks, DoublyLinked, link-nonzero, links-first, no-zero, prev-of-next}
 
 module _ (a : Arena) where

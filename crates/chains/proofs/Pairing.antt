@@ -1,11 +1,11 @@
 -- A one-to-one map of the numbers below m into those below n: m is at most n. Assumes nothing.
-use Prim.Native.Nat.{ℕ, zero, suc, _+_, _≤_, _<_}
-use mathlib.Core.Path.{_≡_, refl, sym, ap, _∙_}
+use Prim.Native.Nat.{ℕ, suc, _≤_, _<_}
+use mathlib.Core.Path.{_≡_, sym}
 use mathlib.Core.Logic.{_⊎_, inl, inr}
 use mathlib.Core.List.{List, [], _∷_, map}
 use native.Mathlib.Omega.{arith}
-use lib.ListN.{length, length-map}
-use Rattle.definitions.specs.Columns.{count, slotsFrom}
+use lib.ListN.{length-map}
+use Rattle.definitions.specs.Columns.{slotsFrom}
 use Rattle.definitions.proofs.Slots.{length-slots}
 use Rattle.definitions.proofs.Count.{In, Once, in-here, in-there, in-cases, not-in-nil, once-nil, once-cons, once-rest, once-first, slots-once, in-slots, pigeonhole}
 

@@ -1,11 +1,11 @@
 -- More laws of runs: where a run without repetition closes, who comes before whom, and a run read by place. Assumes nothing.
-use Prim.Native.Nat.{ℕ, zero, suc, _+_, _≤_, _<_}
-use mathlib.Core.Path.{_≡_, refl, sym, ap, _∙_}
+use Prim.Native.Nat.{ℕ, zero, suc, _<_}
+use mathlib.Core.Path.{_≡_, refl, sym, _∙_}
 use mathlib.Core.Logic.{_≢_, _⊎_, inl, inr}
 use mathlib.Core.List.{List, [], _∷_, _++_, cons≢nil}
 use native.Mathlib.Omega.{arith}
 use lib.ListN.{length}
-use Rattle.definitions.specs.Columns.{at, count, firstOr}
+use Rattle.definitions.specs.Columns.{at, firstOr}
 use Rattle.definitions.specs.Chains.{Linked}
 use Rattle.definitions.proofs.Slots.{count-here}
 use Rattle.definitions.proofs.Count.{In, Once, in-here, in-there, in-cases, in-only, in-append}

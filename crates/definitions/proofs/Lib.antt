@@ -7,7 +7,9 @@ pub mod Linked
 pub mod Freelist
 pub mod Shaped
 pub mod Interlinks
+pub mod Fields
 pub mod LinkCount
 pub mod Parts
 pub mod Relisted
 pub mod Steps
+pub mod Numbers

@@ -4,10 +4,10 @@ use Prim.Native.Nat.{ℕ, zero, suc, _+_, _-_, _≤_, _<_}
 use mathlib.Core.Path.{_≡_, refl, sym, ap, _∙_}
 use mathlib.Core.List.{List, [], _∷_, _++_, map}
 use native.Mathlib.Omega.{arith}
-use native.Mathlib.Nat.{zero-add, suc-add, add-suc, add-zero}
-use lib.ListN.{length, getD, take, drop, replicate, length-append, length-drop, length-replicate}
+use native.Mathlib.Nat.{zero-add, suc-add, add-zero}
+use lib.ListN.{length, take, drop, replicate, length-append, length-drop, length-replicate}
 use lib.Seq.{ext-getD, take-at}
-use Rattle.definitions.specs.Columns.{at, count, slotsFrom, settled}
+use Rattle.definitions.specs.Columns.{at, slotsFrom, settled}
 use Rattle.definitions.proofs.Columns.{at-zero}
 use Rattle.definitions.proofs.Count.{In, in-here, in-there}
 

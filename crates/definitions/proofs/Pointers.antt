@@ -1,9 +1,8 @@
 -- Laws of stale pointers. Assumes nothing.
-use Prim.Native.Nat.{ℕ}
 use mathlib.Core.Path.{_≡_}
 use mathlib.Core.Bool.{true, false}
 use borrow.Author.Tests.{eqb-false, ltb-false}
-use Rattle.definitions.specs.Arena.{Arena, stackLength, isLink}
+use Rattle.definitions.specs.Arena.{Arena, isLink}
 use Rattle.definitions.specs.Read.{Pointer, stale}
 use Rattle.definitions.proofs.Tests.{neither-first, neither-second}
 use Rattle.definitions.proofs.Slots.{allocated-yes}

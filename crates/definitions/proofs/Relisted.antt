@@ -1,19 +1,19 @@
 -- Laws of the highest link, and of a list of slots threaded into the next column: what a freelist put in order reads. Assumes nothing.
-use Prim.Native.Nat.{ℕ, zero, suc, _+_, _≤_, _<_}
-use mathlib.Core.Path.{_≡_, refl, sym, ap, _∙_}
+use Prim.Native.Nat.{ℕ, zero, suc, _≤_, _<_}
+use mathlib.Core.Path.{_≡_, refl, _∙_}
 use mathlib.Core.Logic.{_⊎_, inl, inr}
-use mathlib.Core.Bool.{Bool, true, false}
+use mathlib.Core.Bool.{Bool, true}
 use mathlib.Core.List.{List, [], _∷_}
 use native.Mathlib.Omega.{arith}
 use lib.ListN.{length}
-use Rattle.definitions.specs.Columns.{at, put, count, firstOr, lastOr, slotsFrom, keep}
+use Rattle.definitions.specs.Columns.{at, put, firstOr, lastOr, slotsFrom, keep}
 use Rattle.definitions.specs.Arena.{allocated, linkSlots}
 use Rattle.definitions.specs.Chains.{Linked}
 use Rattle.definitions.specs.Remove.{threaded}
 use Rattle.definitions.proofs.Tests.{by-test}
 use Rattle.definitions.proofs.Columns.{length-put, at-put-same, at-put-other}
 use Rattle.definitions.proofs.Slots.{allocated-within}
-use Rattle.definitions.proofs.Count.{In, Once, in-here, in-there, in-cases, in-only, once-rest, once-first, keep-yes, keep-no, only-links}
+use Rattle.definitions.proofs.Count.{In, Once, in-here, in-there, in-cases, in-only, once-rest, once-first, only-links}
 use Rattle.definitions.proofs.Linked.{in-last, linked-in-front}
 use Rattle.definitions.proofs.LinkCount.{in-links}
 

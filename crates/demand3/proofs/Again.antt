@@ -2,14 +2,13 @@
 -- slots from the first that waits, so that it is what the order takes next, and it stays where it is. Assumes nothing.
 use Prim.Native.Nat.{ℕ, zero, suc, _+_, _≤_, _<_}
 use mathlib.Core.Path.{_≡_, refl, sym, ap, _∙_}
-use mathlib.Core.Logic.{_≢_}
 use mathlib.Core.List.{List, [], _∷_, _++_, append-assoc, cons≢nil, flatten}
 use native.Mathlib.Omega.{arith}
 use native.Mathlib.Nat.{add-zero}
 use lib.ListN.{length, length-append}
-use Rattle.definitions.specs.Columns.{at, count, firstOr, slotsFrom}
-use Rattle.definitions.specs.Arena.{Arena, stackLength}
-use Rattle.definitions.specs.Chains.{Linked, Kind, opened, closed, IsOpen, IsClosed, IsChain, Like}
+use Rattle.definitions.specs.Columns.{at, firstOr, slotsFrom}
+use Rattle.definitions.specs.Arena.{Arena}
+use Rattle.definitions.specs.Chains.{Linked, Kind, opened, closed, IsClosed, IsChain, Like}
 use Rattle.definitions.specs.Compress.{place, relocate}
 use Rattle.definitions.proofs.Slots.{count-here}
 use Rattle.definitions.proofs.Count.{In, in-here, in-slots, slots-once, count-first}

@@ -1,6 +1,6 @@
 -- A member brought to the front of a list, by exchanging places with who is there: the members stay, and one is taken off. Assumes nothing.
-use Prim.Native.Nat.{ℕ, zero, suc, _+_, _≤_, _<_}
-use mathlib.Core.Path.{_≡_, refl, sym, ap, _∙_}
+use Prim.Native.Nat.{ℕ, suc, _+_, _≤_}
+use mathlib.Core.Path.{_≡_, refl, sym, ap}
 use mathlib.Core.Logic.{_≢_}
 use mathlib.Core.Bool.{cond}
 use mathlib.Core.List.{List, [], _∷_, _++_}
@@ -11,7 +11,7 @@ use lib.Dec.{eqb}
 use borrow.Author.Tests.{eq-eqb, ne-eqb}
 use Rattle.definitions.specs.Columns.{count}
 use Rattle.definitions.proofs.Slots.{count-nil, count-here, count-there, count-append}
-use Rattle.definitions.proofs.Count.{In, count-first, not-in-nil}
+use Rattle.definitions.proofs.Count.{In, not-in-nil}
 
 -- y in the place of the first o
 unfoldable pub instead : ℕ → ℕ → List ℕ → List ℕ

@@ -1,27 +1,26 @@
 -- What an exchange of two slots keeps. The slots b as they are now hold the links of the arena a that is laid out, w says who is in each slot, and through w
 -- every word is the old one. With the transposition σ of i and t, after the exchange prev(σ s) = σ(prev s), next(σ s) = σ(next s) and who(σ s) = who s; so
 -- all of it holds again. Neighbours of each other, a free occupant, i = t and a single closed link need no case of their own. Assumes nothing.
-use Prim.Native.Nat.{ℕ, zero, suc, _+_, _≤_, _<_}
+use Prim.Native.Nat.{ℕ, zero, suc, _≤_}
 use mathlib.Core.Path.{_≡_, refl, sym, ap, _∙_}
 use mathlib.Core.Logic.{_≢_}
-use mathlib.Core.Bool.{Bool, true, false, not, _&&_}
-use mathlib.Core.List.{List, [], _∷_}
+use mathlib.Core.List.{List}
 use native.Mathlib.Omega.{arith}
 use native.Mathlib.Decide.{ℕ-discrete}
-use lib.ListN.{length, getD, drop}
-use lib.Dec.{eqb, leb}
+use lib.ListN.{length, getD}
 use borrow.Author.Tests.{le-leb}
 use Rattle.definitions.specs.Columns.{at, count, slotsFrom}
 use Rattle.definitions.specs.Arena.{Arena, stackLength, allocated, isLink}
+use Rattle.definitions.specs.Check.{Neighbour}
 use Rattle.definitions.specs.Compress.{place, startOf, exchanged, exchangeWords, exchangeLinks, exchangeSlots}
 use Rattle.definitions.proofs.Columns.{at-zero}
 use Rattle.definitions.proofs.Slots.{length-slots}
-use Rattle.definitions.proofs.Count.{In, Once, in-slots, slots-once}
+use Rattle.definitions.proofs.Count.{Once, in-slots, slots-once}
 use Rattle.definitions.proofs.Parts.{in-at, at-own}
-use Rattle.chains.proofs.Links.{Link, DoublyLinked, link-some, link-within, link-nonzero}
+use Rattle.chains.proofs.Links.{Link, DoublyLinked, link-some, link-within}
 use Rattle.chains.proofs.Find.{start-stop, start-round, start-on}
 use Rattle.renaming.proofs.Place.{place-at}
-use Rattle.demand3.proofs.Exchange.{exchanged-twice, exchanged-within, exchanged-some, length-exchange, length-exchange-links, exchange-reads, exchange-links-reads, exchange-count}
+use Rattle.demand3.proofs.Exchange.{exchanged-twice, exchanged-within, exchanged-some, length-exchange, length-exchange-links, exchange-reads, exchange-links-reads}
 
 -- the four columns are as long as the stack at least
 pub record Room (a : Arena) : Type 0 where
@@ -119,6 +118,26 @@ module _ (a b : Arena) (w : List ℕ) (carried : Carried a b w) where
   link-came s h =
       let l : s ≤ n = omega (arith, link-within b s h, same-stack) in
       (link-some b s h, l, sym (same-link s l) ∙ h)
+
+  -- ---- the links are doubly linked now
+
+  named-back : (X Y old back : List ℕ) → Names a w old X → Names a w back Y → ((x : ℕ) → Link a x → Neighbour a back x (at old x)) → (s : ℕ) → Link b s → Neighbour b Y s (at X s)
+  named-back X Y old back there here fine s h d =
+      let l = link-came s h in
+      let p = at X s in
+      let pn : p ≤ n = there .within s (l .0) (l .1) (l .2) in
+      let came : at w p ≡ at old (at w s) = there .came s (l .0) (l .1) (l .2) in
+      let named = fine (at w s) (l .2) (λ z. d (one-slot p 0 pn (omega arith) (came ∙ (z ∙ sym (at-zero w))))) in
+      let link : Link b p = same-link p pn ∙ (ap (isLink a) came ∙ named .0) in
+      let m = link-came p link in
+      (link, one-slot (at Y p) s (here .within p (m .0) (m .1) (m .2)) (l .1) (here .came p (m .0) (m .1) (m .2) ∙ (ap (at back) came ∙ named .1)))
+
+  pub carried-linked : DoublyLinked a → DoublyLinked b
+  carried-linked linked =
+      record {
+        prev = named-back (b .prev) (b .next) (a .prev) (a .next) (carried .prev) (carried .next) (linked .prev);
+        next = named-back (b .next) (b .prev) (a .next) (a .prev) (carried .next) (carried .prev) (linked .next);
+      }
 
   -- ---- the walk back to a chain's start, in the slots as they are now, is the walk back in old slots
 

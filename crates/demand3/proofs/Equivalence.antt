@@ -1,19 +1,17 @@
 -- Canonical compression as document 01 words it, exchange by exchange, leaves exactly what laying the links out in the canonical order leaves, and the
 -- where-from column is that order. Once no link waits, slots 1 to n hold the order, and what a link names now is the slot of what it named. Assumes nothing.
-use Prim.Native.Nat.{ℕ, zero, suc, _+_, _≤_, _<_}
+use Prim.Native.Nat.{ℕ, _≤_}
 use mathlib.Core.Path.{_≡_, refl, sym, ap, _∙_}
 use mathlib.Core.Logic.{_≢_}
-use mathlib.Core.Bool.{Bool, true, false, cond, not}
-use mathlib.Core.List.{List, [], _∷_, _++_, map}
+use mathlib.Core.Bool.{Bool}
+use mathlib.Core.List.{List, [], _∷_, map}
 use native.Mathlib.Omega.{arith}
 use lib.ListN.{length, take, replicate, length-take, length-map}
-use lib.Dec.{eqb}
-use borrow.Author.Tests.{eq-eqb, ne-eqb}
 use Rattle.definitions.specs.Columns.{at, settled}
-use Rattle.definitions.specs.Arena.{Arena, arena, capacity, stackLength, linkCount}
+use Rattle.definitions.specs.Arena.{Arena, capacity, stackLength, linkCount}
 use Rattle.definitions.specs.Check.{WellFormed}
-use Rattle.definitions.specs.Reply.{Reply, reply, refusal}
-use Rattle.definitions.specs.Compress.{compressedHeader, compressGeneration, compressNumber, place, relocate, laidOut, canonicalArena, compressCanonical}
+use Rattle.definitions.specs.Reply.{reply, refusal}
+use Rattle.definitions.specs.Compress.{compressGeneration, compressNumber, place, relocate, laidOut, canonicalArena, compressCanonical}
 use Rattle.definitions.proofs.Tests.{not-eq, not-ne}
 use Rattle.definitions.proofs.Parts.{at-map, at-take, same-words}
 use Rattle.chains.proofs.Links.{Link, DoublyLinked, well-formed-linked}

@@ -3,7 +3,6 @@
 use Prim.Native.Nat.{ℕ, zero, suc, _+_, _≤_, _<_}
 use mathlib.Core.Path.{_≡_, refl, sym, ap, subst, _∙_}
 use mathlib.Core.Logic.{_≢_}
-use mathlib.Core.Bool.{cond}
 use mathlib.Core.List.{List, [], _∷_, _++_, map}
 use native.Mathlib.Omega.{arith}
 use native.Mathlib.Decide.{ℕ-discrete, decLe}
@@ -11,7 +10,7 @@ use lib.ListN.{length, take, drop, set, length-append, length-map, length-take, 
 use borrow.Author.Tests.{eq-eqb, ne-eqb}
 use Rattle.definitions.specs.Columns.{at, put, count}
 use Rattle.definitions.specs.Compress.{exchanged, exchangeWords, exchangeLinks}
-use Rattle.definitions.proofs.Columns.{at-zero, length-put, at-put-same, at-put-other}
+use Rattle.definitions.proofs.Columns.{length-put, at-put-same, at-put-other}
 use Rattle.definitions.proofs.Slots.{count-append}
 use Rattle.definitions.proofs.Count.{In, in-here, in-there, count-first, count-grows}
 use Rattle.definitions.proofs.Parts.{at-map, at-take, at-append-left, in-at}
@@ -146,7 +145,8 @@ exchange-brings (suc k) (x ∷ r) (suc (suc m)) o h l e c =
 pub count-parts : (x k : ℕ) (w : List ℕ) → count x w ≡ count x (take k w) + count x (drop k w)
 count-parts x k w = ap (count x) (sym (take-append-drop k w)) ∙ count-append x (take k w) (drop k w)
 
-in-drop : (k : ℕ) (w : List ℕ) (t : ℕ) → k < t → t ≤ length w → In (at w t) (drop k w)
+-- who is in a slot after k waits
+pub in-drop : (k : ℕ) (w : List ℕ) (t : ℕ) → k < t → t ≤ length w → In (at w t) (drop k w)
 unfolding at
 in-drop k [] t h l = absurd (omega arith)
 in-drop zero (x ∷ w) t h l = in-at (x ∷ w) t h l

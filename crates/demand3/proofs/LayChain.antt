@@ -3,10 +3,10 @@
 use Prim.Native.Nat.{ℕ, zero, suc, _+_, _≤_, _<_}
 use mathlib.Core.Path.{_≡_, refl, sym, ap, subst, _∙_}
 use mathlib.Core.Logic.{_≢_, _⊎_, inl, inr}
-use mathlib.Core.Bool.{Bool, true, false, _||_}
+use mathlib.Core.Bool.{true, false, _||_}
 use mathlib.Core.List.{List, [], _∷_, _++_, append-assoc}
 use native.Mathlib.Omega.{arith}
-use native.Mathlib.Decide.{ℕ-discrete, decLe}
+use native.Mathlib.Decide.{decLe}
 use lib.ListN.{length, take, drop, length-append}
 use lib.Dec.{eqb}
 use borrow.Author.Tests.{eq-eqb, ne-eqb}
@@ -17,9 +17,9 @@ use Rattle.definitions.specs.Compress.{Laying, exchanged, exchangeWords, putAtI
 use Rattle.definitions.proofs.Tests.{the-first, the-second, neither}
 use Rattle.definitions.proofs.Columns.{at-zero}
 use Rattle.definitions.proofs.Slots.{count-here}
-use Rattle.definitions.proofs.Count.{In, in-here, in-there, count-grows}
+use Rattle.definitions.proofs.Count.{In, in-here, in-there}
 use Rattle.definitions.proofs.Parts.{at-past}
-use Rattle.chains.proofs.Links.{Link, AllLinks, link-nonzero}
+use Rattle.chains.proofs.Links.{Link, AllLinks, link-nonzero, links-snoc}
 use Rattle.demand3.proofs.Bring.{bring, brings, brings-nil, brings-cons, brings-rest}
 use Rattle.demand3.proofs.Exchange.{exchanged-i, exchanged-other, exchange-reads, exchange-brings, exchange-count, waits-later}
 use Rattle.demand3.proofs.Carried.{Room, Carried, who-once, one-slot, exchange-carries}
@@ -29,6 +29,8 @@ module _ (a : Arena) where
   pub record State (l : Laying) (k : ℕ) : Type 0 where
     pub i : l .i ≡ suc k
     pub carried : Carried a (l .slots) (l .from)
+    pub within : k ≤ stackLength a
+    pub laid : AllLinks a (take k (l .from))
 
   -- after k links, those of c were put in their order
   pub record Brought (l l′ : Laying) (k k′ : ℕ) (c : List ℕ) : Type 0 where
@@ -82,6 +84,8 @@ module _ (a : Arena) where
           state = record {
             i = refl;
             carried = exchange-carries a (l .slots) w (state .carried) (suc k) t (omega arith) (in-stack .0) (omega (arith, in-stack .1, after-k)) (in-stack .1) room (exchange-count k w t o after-k long here few);
+            within = omega (arith, in-stack .1, after-k);
+            laid = rw (shape .0) (links-snoc a (take k w) o (state .laid) link);
           };
           front = shape .0;
           rest = shape .1;
@@ -219,11 +223,11 @@ module _ (a : Arena) where
 
   -- ---- the whole chain
 
-  lay-over : (steps first t : ℕ) (l : Laying) → (eqb (at (putAtI t l .slots .next) (l .i)) 0 || eqb (at (putAtI t l .slots .next) (l .i)) first) ≡ true → layChain (suc steps) first t l ≡ putAtI t l
+  pub lay-over : (steps first t : ℕ) (l : Laying) → (eqb (at (putAtI t l .slots .next) (l .i)) 0 || eqb (at (putAtI t l .slots .next) (l .i)) first) ≡ true → layChain (suc steps) first t l ≡ putAtI t l
   unfolding layChain
   lay-over steps first t l e = rw (e, layChain)
 
-  lay-on : (steps first t : ℕ) (l : Laying) → (eqb (at (putAtI t l .slots .next) (l .i)) 0 || eqb (at (putAtI t l .slots .next) (l .i)) first) ≡ false →
+  pub lay-on : (steps first t : ℕ) (l : Laying) → (eqb (at (putAtI t l .slots .next) (l .i)) 0 || eqb (at (putAtI t l .slots .next) (l .i)) first) ≡ false →
       layChain (suc steps) first t l ≡ layChain steps first (at (putAtI t l .slots .next) (l .i)) (putAtI t l)
   unfolding layChain
   lay-on steps first t l e = rw (e, layChain)

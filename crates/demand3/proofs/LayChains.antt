@@ -3,15 +3,14 @@
 use Prim.Native.Nat.{ℕ, zero, suc, _+_, _-_, _≤_, _<_}
 use mathlib.Core.Path.{_≡_, refl, sym, ap, subst, _∙_}
 use mathlib.Core.Logic.{_≢_, _⊎_, inl, inr}
-use mathlib.Core.Bool.{Bool, true, false}
-use mathlib.Core.List.{List, [], _∷_, _++_, map, append-nil, flatten}
+use mathlib.Core.Bool.{true, false}
+use mathlib.Core.List.{List, [], _∷_, map, append-nil, flatten}
 use native.Mathlib.Omega.{arith}
 use native.Mathlib.Nat.{add-zero}
 use native.Mathlib.Decide.{ℕ-discrete}
 use lib.ListN.{length, take, drop, length-drop}
-use lib.Dec.{eqb}
 use borrow.Author.Tests.{eq-eqb, ne-eqb}
-use Rattle.definitions.specs.Columns.{at, count, firstOr, slotsFrom, keep}
+use Rattle.definitions.specs.Columns.{at, firstOr, slotsFrom, keep}
 use Rattle.definitions.specs.Arena.{Arena, stackLength, isLink}
 use Rattle.definitions.specs.Chains.{Linked, Kind, opened, closed, IsChain}
 use Rattle.definitions.specs.Compress.{Laying, lowestFrom, startOf, layChain, layChains, laidOut}
@@ -19,7 +18,7 @@ use Rattle.definitions.proofs.Tests.{by-test}
 use Rattle.definitions.proofs.Columns.{at-zero}
 use Rattle.definitions.proofs.Count.{In, in-here, in-there, in-slots, in-keep, keep-yes, keep-no, once-first}
 use Rattle.definitions.proofs.Parts.{at-drop}
-use Rattle.chains.proofs.Links.{Link, AllLinks, DoublyLinked, few-links, link-nonzero}
+use Rattle.chains.proofs.Links.{Link, AllLinks, DoublyLinked, few-links, link-nonzero, links-nil}
 use Rattle.chains.proofs.OneChain.{chain-links, chain-some}
 use Rattle.chains.proofs.Find.{chainFrom, along-first, ChainOf}
 use Rattle.demand3.proofs.Bring.{brings, brings-nil}
@@ -70,11 +69,11 @@ module _ (a b : Arena) (w : List ℕ) (carried : Carried a b w) where
 
 -- ---- step by step
 
-lay-done : (f : ℕ) (l : Laying) → lowestFrom (l .slots) (l .i) ≡ 0 → layChains (suc f) l ≡ l
+pub lay-done : (f : ℕ) (l : Laying) → lowestFrom (l .slots) (l .i) ≡ 0 → layChains (suc f) l ≡ l
 unfolding layChains
 lay-done f l e = rw (eq-eqb (lowestFrom (l .slots) (l .i)) 0 e, layChains)
 
-lay-next : (f : ℕ) (l : Laying) → lowestFrom (l .slots) (l .i) ≢ 0 →
+pub lay-next : (f : ℕ) (l : Laying) → lowestFrom (l .slots) (l .i) ≢ 0 →
     layChains (suc f) l ≡ layChains f (layChain (stackLength (l .slots)) (l .i) (startOf (l .slots) (stackLength (l .slots)) (lowestFrom (l .slots) (l .i)) (lowestFrom (l .slots) (l .i))) l)
 unfolding layChains
 lay-next f l d = rw (ne-eqb (lowestFrom (l .slots) (l .i)) 0 d, layChains)
@@ -125,21 +124,24 @@ module _ (a : Arena) (linked : DoublyLinked a) (room : Room a) where
         (ap (λ (m : ℕ). startOf a m (at w j) (at w j)) (same-stack a b w (state .carried)) ∙
         (ap (λ (x : ℕ). startOf a n x x) here ∙ sym (along-first (at (a .next)) n (startOf a n o o) (startOf a n o o) 0)))
 
-    pub lowest-laid : (k′ : ℕ) × Brought a l (layChain (stackLength (l .slots)) (l .i) (startOf (l .slots) (stackLength (l .slots)) (lowestFrom (l .slots) (l .i)) (lowestFrom (l .slots) (l .i))) l) k k′ (chainFrom a (lowestLink a (drop k (l .from))))
-    lowest-laid = go (chainFrom a o) refl (its .kind) (its .chain)
-      where
-        c : List ℕ
-        c = chainFrom a o
+    -- its chain is there to be laid out, from its start
+    pub record Begins : Type 0 where
+      pub h : ℕ
+      pub z : ℕ
+      pub os : List ℕ
+      pub is : chainFrom a (lowestLink a (drop k (l .from))) ≡ h ∷ os
+      pub chaining : Chaining a l k (startOf (l .slots) (stackLength (l .slots)) (lowestFrom (l .slots) (l .i)) (lowestFrom (l .slots) (l .i))) (l .i) h z h os
+      pub few : length os < stackLength (l .slots)
 
-        go : (d : List ℕ) → chainFrom a o ≡ d → (kind : Kind) → IsChain a kind (chainFrom a o) → (k′ : ℕ) × Brought a l (layChain (stackLength b) (l .i) t l) k k′ (chainFrom a o)
-        go [] e kind ch = absurd (chain-some a kind c ch e)
-        go (h ∷ os) e kind ch = (k + suc (length os), rw e (chain-laid a room (stackLength b) l k t (l .i) h (end kind) h os state (chaining kind ch) few))
+    pub lowest-begins : Begins
+    lowest-begins = go (chainFrom a o) refl (its .kind) (its .chain)
+      where
+        go : (c : List ℕ) → chainFrom a o ≡ c → (kind : Kind) → IsChain a kind (chainFrom a o) → Begins
+        go [] e kind ch = absurd (chain-some a kind (chainFrom a o) ch e)
+        go (h ∷ os) e kind ch = record { h = h; z = end kind; os = os; is = e; chaining = chaining; few = omega (arith, same-stack a b w (state .carried), few-links a (h ∷ os) (λ x. rw (← e) (its .once x)) links) }
           where
             links : AllLinks a (h ∷ os)
-            links = subst (λ (x : List ℕ). AllLinks a x) e (chain-links a kind c ch)
-
-            few : length os < stackLength b
-            few = omega (arith, same-stack a b w (state .carried), few-links a (h ∷ os) (λ x. rw (← e) (its .once x)) links)
+            links = subst (λ (x : List ℕ). AllLinks a x) e (chain-links a kind (chainFrom a o) ch)
 
             end : Kind → ℕ
             end opened = 0
@@ -155,8 +157,8 @@ module _ (a : Arena) (linked : DoublyLinked a) (room : Room a) where
                 let hd : firstOr 0 (chainFrom a o) ≡ h = ap (firstOr 0) e ∙ (unfold firstOr in refl) in
                 rw (← e) (subst (λ (z : ℕ). Linked (at (a .next)) (chainFrom a o) z) hd (unfold IsChain in ch .linked))
 
-            chaining : (kind : Kind) → IsChain a kind (chainFrom a o) → Chaining a l k t (l .i) h (end kind) h os
-            chaining kind ch =
+            chaining : Chaining a l k t (l .i) h (end kind) h os
+            chaining =
                 record {
                   here = start-here ∙ (ap (firstOr 0) e ∙ (unfold firstOr in refl));
                   run = run kind ch;
@@ -167,6 +169,11 @@ module _ (a : Arena) (linked : DoublyLinked a) (room : Room a) where
                   ends = ends kind;
                   begun = inl (refl, state .i);
                 }
+
+    pub lowest-laid : (k′ : ℕ) × Brought a l (layChain (stackLength (l .slots)) (l .i) (startOf (l .slots) (stackLength (l .slots)) (lowestFrom (l .slots) (l .i)) (lowestFrom (l .slots) (l .i))) l) k k′ (chainFrom a (lowestLink a (drop k (l .from))))
+    lowest-laid =
+        let c = lowest-begins in
+        (k + suc (length (c .os)), rw (c .is) (chain-laid a room (stackLength b) l k t (l .i) (c .h) (c .z) (c .h) (c .os) state (c .chaining) (c .few)))
 
   -- ---- all chains
 
@@ -204,6 +211,6 @@ module _ (a : Arena) (linked : DoublyLinked a) (room : Room a) where
   unfolding laidOut canonicalOrder canonicalChains
   canonical-laid-out =
       let l : Laying = record { slots = a; from = slotsFrom 1 (stackLength a); i = 1 } in
-      let r = chains-laid (stackLength a) l 0 (record { i = refl; carried = carried-start a linked }) (all-wait a linked) in
+      let r = chains-laid (stackLength a) l 0 (record { i = refl; carried = carried-start a linked; within = omega arith; laid = links-nil a }) (all-wait a linked) in
       let e : r .0 ≡ length (flatten (chainsFrom a (stackLength a) (slotsFrom 1 (stackLength a)))) = omega (arith, r .1 .upto) in
       (rw e at (r .1 .front), r .1 .state .carried)

@@ -7,4 +7,13 @@ pub mod Exchange
 pub mod Carried
 pub mod LayChain
 pub mod LayChains
+pub mod Search
+pub mod Loops
 pub mod Equivalence
+pub mod Accepted
+pub mod OneCompression
+pub mod SameChains
+pub mod Unmoved
+pub mod Kept
+pub mod Computed
+pub mod Demand3

@@ -1,10 +1,10 @@
 -- The canonical order, on old slots that never change: r is who is in slots i, i+1, and so on. The chain of the first link in r is brought to the front,
 -- member by member, and so on with who is left. It lists the links chain by chain, each chain once. Assumes nothing.
-use Prim.Native.Nat.{ℕ, zero, suc, _+_, _≤_, _<_}
-use mathlib.Core.Path.{_≡_, refl, sym, ap, _∙_}
+use Prim.Native.Nat.{ℕ, zero, suc, _+_, _≤_}
+use mathlib.Core.Path.{_≡_, refl, sym, _∙_}
 use mathlib.Core.Logic.{_≢_, inl, inr}
-use mathlib.Core.Bool.{Bool, true, false}
-use mathlib.Core.List.{List, [], _∷_, _++_, flatten}
+use mathlib.Core.Bool.{true, false}
+use mathlib.Core.List.{List, [], _∷_, flatten}
 use native.Mathlib.Omega.{arith}
 use native.Mathlib.Decide.{ℕ-discrete, decLe}
 use lib.ListN.{length}
@@ -12,14 +12,14 @@ use lib.Dec.{eqb}
 use borrow.Author.Tests.{eq-eqb, ne-eqb}
 use Rattle.definitions.specs.Columns.{count, firstOr, slotsFrom, keep}
 use Rattle.definitions.specs.Arena.{Arena, stackLength, linkCount, linkSlots, isLink}
-use Rattle.definitions.specs.Chains.{Kind, opened, closed, IsChain}
+use Rattle.definitions.specs.Chains.{Kind, IsChain}
 use Rattle.definitions.proofs.Slots.{count-nil, count-append, count-slots-in, length-slots}
 use Rattle.definitions.proofs.Count.{In, Once, in-here, in-append, not-in-nil, slots-once, in-keep, keep-yes, keep-no, keep-has}
 use Rattle.chains.proofs.Links.{Link, DoublyLinked, link-some, link-within, link-nonzero}
 use Rattle.chains.proofs.OneChain.{chain-links, chain-some, one-chain, like-count}
 use Rattle.chains.proofs.Find.{chainFrom, ChainOf, chain-of}
 use Rattle.renaming.proofs.Orders.{OrderOf, order-size}
-use Rattle.demand3.proofs.Bring.{bring, brings, brings-count, brings-length}
+use Rattle.demand3.proofs.Bring.{brings, brings-count, brings-length}
 
 -- the first link of a list of old slots, 0 if there is none
 unfoldable pub lowestLink : Arena → List ℕ → ℕ

@@ -1,14 +1,14 @@
 -- What an arena laid out in the canonical order gives back: cut where next is not the following slot, its pieces came from exactly the old chains, each
 -- once; an open piece's last next is 0; and each old chain lies on consecutive slots. Assumes nothing.
-use Prim.Native.Nat.{ℕ, zero, suc, _+_, _≤_, _<_}
-use mathlib.Core.Path.{_≡_, refl, sym, ap, subst, _∙_}
+use Prim.Native.Nat.{ℕ, zero, suc, _<_}
+use mathlib.Core.Path.{_≡_, refl, sym, ap, _∙_}
 use mathlib.Core.Logic.{inl, inr}
-use mathlib.Core.List.{List, [], _∷_, _++_, map, flatten}
+use mathlib.Core.List.{List, [], map, flatten}
 use native.Mathlib.Omega.{arith}
 use lib.ListN.{length}
 use Rattle.definitions.specs.Columns.{at, count, firstOr, lastOr, slotsFrom}
 use Rattle.definitions.specs.Arena.{Arena}
-use Rattle.definitions.specs.Chains.{Kind, opened, closed, IsChain, Chain, Like, nth, Listing, cut, marked, pieces, replaced}
+use Rattle.definitions.specs.Chains.{opened, IsChain, Chain, Like, nth, Listing, cut, marked, pieces, replaced}
 use Rattle.definitions.specs.Compress.{relocate}
 use Rattle.definitions.specs.Demand3.{LiesFrom}
 use Rattle.definitions.proofs.Count.{In, in-append, not-in-nil}

@@ -1,18 +1,18 @@
 -- `canonicalize_freelist` keeps an arena well formed. Up to the highest link every slot reads as before, but for the next of free slots: so the
 -- links and their neighbours stay, and the free slots below the highest link, in rising order, are the freelist. Assumes nothing.
-use Prim.Native.Nat.{ℕ, zero, suc, _+_, _-_, _≤_}
-use mathlib.Core.Path.{_≡_, refl, sym, ap, _∙_}
-use mathlib.Core.Bool.{Bool, true, false}
+use Prim.Native.Nat.{ℕ, _≤_}
+use mathlib.Core.Path.{_≡_, refl, sym, _∙_}
+use mathlib.Core.Bool.{true}
 use mathlib.Core.List.{List, [], _∷_}
 use native.Mathlib.Omega.{arith}
 use lib.ListN.{length, take}
 use lib.Seq.{length-take-le}
-use Rattle.definitions.specs.Columns.{at, count, firstOr, lastOr, settled}
+use Rattle.definitions.specs.Columns.{at, firstOr, lastOr, settled}
 use Rattle.definitions.specs.Arena.{Arena, arena, withHeader, allocated, linkSlots, freeSlots}
 use Rattle.definitions.specs.Check.{WellFormed, Freelist}
 use Rattle.definitions.specs.Remove.{threaded, canonicalizeFreelist}
 use Rattle.definitions.proofs.Slots.{allocated-yes, allocated-within, allocated-live}
-use Rattle.definitions.proofs.Count.{In, Once, count-free, only-free}
+use Rattle.definitions.proofs.Count.{count-free, only-free}
 use Rattle.definitions.proofs.Linked.{linked-agree}
 use Rattle.definitions.proofs.Freelist.{free-once}
 use Rattle.definitions.proofs.LinkCount.{as-many-links}

@@ -6,3 +6,5 @@ pub mod Removal
 pub mod Runs
 pub mod CanonicalFreelist
 pub mod Drain
+pub mod EveryCallKeeps
+pub mod RunIsFold

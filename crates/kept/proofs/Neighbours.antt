@@ -1,8 +1,8 @@
 -- Laws of one side of the interlinks, for a column xs (prev or next) and the column ys that names back (next or prev): what an edit of both keeps.
 -- Each law is used twice, once for either side, with the two columns and the two slots in each other's place. Assumes nothing.
-use Prim.Native.Nat.{ℕ, zero, suc, _+_, _≤_, _<_}
+use Prim.Native.Nat.{ℕ, _≤_}
 use mathlib.Core.Path.{_≡_, refl, sym, ap, _∙_}
-use mathlib.Core.Bool.{Bool, true, false}
+use mathlib.Core.Bool.{Bool, true}
 use mathlib.Core.List.{List}
 use native.Mathlib.Omega.{arith}
 use native.Mathlib.Decide.{ℕ-discrete}

@@ -6,14 +6,14 @@ use Prim.Native.Nat.{ℕ}
 use mathlib.Core.Path.{_≡_, refl}
 use mathlib.Core.Logic.{inl, inr}
 use mathlib.Core.Bool.{Bool, true, false, cond}
-use mathlib.Core.List.{List}
+use mathlib.Core.List.{List, []}
 use Rattle.definitions.specs.Arena.{Arena}
 use Rattle.definitions.specs.Reply.{Reply, reply, refusal}
 use Rattle.definitions.specs.Read.{getLink, getLinkNoGen, areNeighbors}
 use Rattle.definitions.specs.Walk.{walkStart, walkStep}
 use Rattle.definitions.specs.Edit.{connect, breakPrev, breakNext, exchangeNext, doneNumber, setGeneration, incGeneration}
 use Rattle.definitions.specs.Remove.{remove, drain, canonicalizeFreelist}
-use Rattle.definitions.specs.Run.{run}
+use Rattle.definitions.specs.Run.{Command, apply, run}
 use Rattle.definitions.specs.Compress.{compressNumber, compressWith, compressCanonical}
 use Rattle.definitions.specs.Calls.{
   Call,
@@ -93,3 +93,8 @@ module _ (a : Arena) (l : List ℕ) where
 pub refusal-changes-nothing : (limit top : ℕ) (c : Call) (a : Arena) (l : List ℕ) → Unchanged a l (replyTo limit top c a l)
 unfolding replyTo
 refusal-changes-nothing limit top c a l = search (either, of-call, refuses)
+
+-- and of a command of a run: 'A refused command changes nothing and the run goes on.'
+pub refused-command : (top : ℕ) (a : Arena) (c : Command) → Unchanged a [] (apply top a c)
+unfolding apply connect breakPrev breakNext exchangeNext remove
+refused-command top a c = search branches depth 12

@@ -1,17 +1,17 @@
 -- Removal keeps an arena well formed. The slot's neighbours name each other, so that the side laws hold for the links that are left; one link is
 -- fewer; the freelist, which the slot is not on, stays if the slot is popped, and gets the slot in front otherwise. Assumes nothing.
-use Prim.Native.Nat.{ℕ, zero, suc, _+_, _-_, _≤_}
+use Prim.Native.Nat.{ℕ, suc, _-_, _≤_}
 use mathlib.Core.Path.{_≡_, refl, sym, ap, _∙_}
 use mathlib.Core.Logic.{_⊎_, inl, inr}
-use mathlib.Core.Bool.{Bool, true, false, cond}
+use mathlib.Core.Bool.{true, false, cond}
 use mathlib.Core.List.{List, [], _∷_}
 use native.Mathlib.Omega.{arith}
 use native.Mathlib.Decide.{ℕ-discrete}
 use lib.ListN.{length}
 use lib.Dec.{eqb}
-use borrow.Author.Tests.{eqb-true, eqb-false, eq-eqb, ne-eqb}
+use borrow.Author.Tests.{eqb-true, eq-eqb, ne-eqb}
 use Rattle.definitions.specs.Columns.{at, put, count, firstOr, lastOr}
-use Rattle.definitions.specs.Arena.{Arena, arena, stackLength, allocated, isLink, withHeader}
+use Rattle.definitions.specs.Arena.{Arena, arena, allocated, isLink, withHeader}
 use Rattle.definitions.specs.Chains.{Linked}
 use Rattle.definitions.specs.Check.{WellFormed, Freelist}
 use Rattle.definitions.specs.Read.{Pointer, stale}

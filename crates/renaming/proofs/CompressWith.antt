@@ -1,8 +1,8 @@
 -- Order-preserving compression: an accepted one is the renaming by slot order, a refused one changes nothing, and either leaves a well formed arena.
 -- The generation that a compression gives is never below 2. Assumes nothing.
-use Prim.Native.Nat.{ℕ, _+_, _*_, _≤_, _<_}
-use mathlib.Core.Path.{_≡_, refl, sym, ap, _∙_}
-use mathlib.Core.Bool.{Bool, true, false, cond, not, _||_}
+use Prim.Native.Nat.{ℕ, _*_, _≤_}
+use mathlib.Core.Path.{_≡_}
+use mathlib.Core.Bool.{Bool, true, false}
 use mathlib.Core.List.{List, []}
 use native.Mathlib.Omega.{arith}
 use lib.ListN.{length}
@@ -12,7 +12,7 @@ use Rattle.definitions.specs.Columns.{written}
 use Rattle.definitions.specs.Arena.{Arena, stackLength, linkCount, current, linkSlots}
 use Rattle.definitions.specs.Chains.{Renaming}
 use Rattle.definitions.specs.Check.{WellFormed}
-use Rattle.definitions.specs.Reply.{Reply, reply, refusal}
+use Rattle.definitions.specs.Reply.{reply}
 use Rattle.definitions.specs.Edit.{nextGeneration}
 use Rattle.definitions.specs.Compress.{raises, compressGeneration, compressNumber, relocate, movesOf, compressWith}
 use Rattle.definitions.proofs.Tests.{by-test}

@@ -1,12 +1,12 @@
 -- Orders of an arena's links: lists that hold each link once and nothing else. All are of one length. Assumes nothing.
-use Prim.Native.Nat.{ℕ, suc, _+_, _≤_, _<_}
+use Prim.Native.Nat.{ℕ, _≤_}
 use mathlib.Core.Path.{_≡_}
 use mathlib.Core.List.{List}
 use native.Mathlib.Omega.{arith}
 use native.Mathlib.Decide.{decLe}
 use lib.ListN.{length}
-use Rattle.definitions.specs.Columns.{at, count, slotsFrom}
-use Rattle.definitions.specs.Arena.{Arena, stackLength, linkSlots, freeSlots}
+use Rattle.definitions.specs.Columns.{at, count}
+use Rattle.definitions.specs.Arena.{Arena, stackLength, linkSlots}
 use Rattle.definitions.proofs.Slots.{links-and-free}
 use Rattle.definitions.proofs.Count.{In, count-links, only-links, shorter}
 use Rattle.definitions.proofs.Parts.{in-at}

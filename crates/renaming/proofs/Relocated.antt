@@ -1,14 +1,14 @@
 -- Whatever order lists the links once each: laying them out in it is a one-to-one renaming that carries every payload and neighbour, the links fill
 -- exactly slots 1 to n, and the arena left is well formed. A neighbour goes where its old slot stands in the order, so that who came from whom is read
 -- back from the order. Assumes nothing.
-use Prim.Native.Nat.{ℕ, zero, suc, _+_, _≤_, _<_}
+use Prim.Native.Nat.{ℕ, _≤_}
 use mathlib.Core.Path.{_≡_, refl, sym, ap, _∙_}
 use mathlib.Core.Logic.{_≢_}
 use mathlib.Core.List.{List, [], _∷_, map}
 use native.Mathlib.Omega.{arith}
 use native.Mathlib.Decide.{ℕ-discrete}
 use lib.ListN.{length, getD, length-map}
-use Rattle.definitions.specs.Columns.{at, count, firstOr, slotsFrom, settled}
+use Rattle.definitions.specs.Columns.{at, firstOr, slotsFrom, settled}
 use Rattle.definitions.specs.Arena.{Arena, capacity, stackLength, linkCount, root, current}
 use Rattle.definitions.specs.Chains.{Linked, Renaming}
 use Rattle.definitions.specs.Check.{Neighbour, Freelist, WellFormed}

@@ -1,1 +1,3 @@
-pub mod Walked
+pub mod Steps
+pub mod Walks
+pub mod AnyState

@@ -1,1 +1,1 @@
-// What a walk answers stands in specs/, and why in proofs/. There is no code here: crate chain_iterators has the step.
+// Theorems over the definitions: a walk from a link gives its chain, each link once, then none. There is no code here: crate chain_iterators has the step.

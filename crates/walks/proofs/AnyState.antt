@@ -1,5 +1,5 @@
--- Laws of walks over any arena and any state words: what a step can answer, how a walk goes on, and that it answers none ever after none.
--- Assumes nothing.
+-- Walks over any arena, with any state words: a step answers a link or none (`step-answers-links`), and after none it answers none ever after
+-- (`none-after-none`). A walk that was started answers its slots, and then none ever after (`walk-then-none`). Assumes nothing.
 use Prim.Native.Nat.{ℕ, zero, suc, _+_, _-_, _≤_, _<_}
 use mathlib.Core.Path.{_≡_, refl, sym, ap, _∙_}
 use mathlib.Core.Logic.{_⊎_, inl, inr}
@@ -12,16 +12,16 @@ use lib.ListN.{length, replicate}
 use lib.Dec.{eqb}
 use borrow.Author.Tests.{ne-eqb}
 use Rattle.definitions.specs.Columns.{at, count}
-use Rattle.definitions.specs.Arena.{Arena, stackLength, isLink}
+use Rattle.definitions.specs.Arena.{Arena, stackLength, linkCount, isLink}
 use Rattle.definitions.specs.Read.{Pointer, pointer}
-use Rattle.definitions.specs.Walk.{Walk, walk, Stepped, none, onward, step, walked}
+use Rattle.definitions.specs.Walk.{Walk, walk, Stepped, none, onward, step, startAt, walked, walkFrom}
 use Rattle.definitions.proofs.Tests.{by-test}
 use Rattle.definitions.proofs.Columns.{at-zero}
 use Rattle.definitions.proofs.Slots.{allocated-free}
 use Rattle.definitions.proofs.Count.{In, in-cases, not-in-nil}
 use Rattle.definitions.proofs.Steps.{step-spent, step-ends, step-answers}
 use Rattle.chains.proofs.Links.{Link, AllLinks, link-nonzero, links-nil, links-cons}
-use Rattle.walks.specs.Walks.{answers}
+use Rattle.walks.specs.Answers.{answers}
 
 module _ (a : Arena) where
   -- slot 0 is no link
@@ -117,3 +117,7 @@ module _ (a : Arena) where
           answers a (length (walked a (suc m) w) + k) w ≡ walked a (suc m) w ++ replicate k 0
       go (inr e) ih = rw (walked-none (suc m) w e, zero-add) (none-after-end k w e)
       go (inl s) ih = unfold answers in rw (walked-on m w s, suc-add, s .is) (ap (λ (l : List ℕ). w .position ∷ l) (ih (omega (arith, onward-left w, s .some))))
+
+  -- as of a walk that was started
+  pub walk-then-none : (o k : ℕ) → answers a (length (walkFrom a o) + k) (startAt a o) ≡ walkFrom a o ++ replicate k 0
+  walk-then-none o k = walked-then-none (linkCount a) k (startAt a o) (omega arith)

@@ -1,0 +1,49 @@
+-- Laws of a slice that is written from the front: `written ws old` has the words ws, and the old words behind them. Assumes nothing.
+use Prim.Native.Nat.{ℕ, zero, suc, _+_, _-_, _≤_, _<_}
+use mathlib.Core.Path.{_≡_, refl, sym, ap, _∙_}
+use mathlib.Core.List.{List, [], _∷_, _++_, append-assoc}
+use native.Mathlib.Omega.{arith}
+use native.Mathlib.Nat.{add-zero}
+use native.Mathlib.Numerals.{add-one}
+use lib.ListN.{length, getD, set, take, drop, length-append, length-drop, List·getD-append}
+use lib.Seq.{sets, sets-eq, take-append-seam, drop-append-add, drop-drop, getD-append-add, drop-cons, getD-drop, append-snoc}
+use Rattle.definitions.specs.Columns.{at, written}
+use Rattle.definitions.proofs.Columns.{at-suc}
+
+pub written-none : (old : List ℕ) → written [] old ≡ old
+unfolding written
+written-none old = refl
+
+module _ (ws old : List ℕ) where
+  pub length-written : length ws ≤ length old → length (written ws old) ≡ length old
+  unfolding written
+  length-written room = simp (length-append, length-drop) (omega arith)
+
+  behind : (m : ℕ) → drop (length ws + m) (written ws old) ≡ drop (length ws + m) old
+  unfolding written
+  behind m = drop-append-add ws (drop (length ws) old) m ∙ drop-drop m (length ws) old
+
+  -- words stored behind those at the front
+  pub written-more : (k : ℕ) (vs : List ℕ) → length ws ≡ k → k + length vs ≤ length old → sets (written ws old) k vs ≡ written (ws ++ vs) old
+  unfolding written
+  written-more k vs e h =
+      rw (← e) (sets-eq vs (written ws old) (length ws) (rw (length-written (omega arith)) (omega arith))
+      ∙ rw (behind (length vs), take-append-seam ws (drop (length ws) old), ← length-append ws vs) refl)
+
+  -- one word more that is the old one
+  pub written-kept : (k : ℕ) → length ws ≡ k → k < length old → written (ws ++ (getD old k 0 ∷ [])) old ≡ written ws old
+  unfolding written
+  written-kept k e h =
+      rw (← e) (rw (length-append, add-one) (append-snoc ws (getD old (length ws) 0) (drop (suc (length ws)) old)) ∙ ap (λ (l : List ℕ). ws ++ l) (sym (drop-cons old (length ws) 0 (omega arith))))
+
+  -- the words behind those at the front
+  pub written-behind : (k : ℕ) → length ws ≡ k → getD (written ws old) k 0 ≡ getD old k 0
+  unfolding written
+  written-behind k e =
+      rw (← e) (ap (λ (i : ℕ). getD (written ws old) i 0) (sym (add-zero (length ws)))
+      ∙ (getD-append-add ws (drop (length ws) old) 0 0 ∙ (getD-drop (length ws) old 0 0 ∙ ap (λ (i : ℕ). getD old i 0) (add-zero (length ws)))))
+
+-- the words at the front
+pub written-front : (ws old : List ℕ) (i : ℕ) → i < length ws → getD (written ws old) i 0 ≡ getD ws i 0
+unfolding written
+written-front ws old i h = List·getD-append ws _ 0 i h

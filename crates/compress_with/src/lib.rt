@@ -1,0 +1,116 @@
+// Order-preserving compression (`compress_with` of chain/impl_chain_arena_trait.rs) in the lent columns, with no memory beyond them: every link gets
+// the new generation in the end, so meanwhile the generation column holds each link's new slot.
+ghost use mathlib.Core.Path.{_≡_};
+ghost use mathlib.Core.List.{List, [], _∷_};
+ghost use Prim.Native.Nat.{ℕ, _+_, _*_, _≤_, _<_};
+ghost use lib.ListN.{length, getD, replicate};
+ghost use lib.Seq.{sets};
+ghost use Rattle.definitions.specs.Columns.{at, written};
+ghost use Rattle.definitions.specs.Arena.{arena, capacityLimit, largestGeneration, headerWords, linkSlots};
+ghost use Rattle.definitions.specs.Check.{verdict};
+ghost use Rattle.definitions.specs.Reply.{reply};
+ghost use Rattle.definitions.specs.Compress.{compressedHeader, relocate, movesOf, compressWith};
+ghost use Rattle.ptr.specs.Extra.{invalidationNumber};
+ghost use Rattle.compress_with.specs.Answers.{compressedNumber};
+ghost use Rattle.compress_with.specs.Moves.{Renewed, Numbered, Movable, Carried, carriedName};
+use base_freelist::inc_generation;
+use base_freelist::pop_slots;
+use ptr::Gen;
+use ptr::InvalidationOption;
+
+// What became of a compression.
+pub enum Compressed {
+    Done(InvalidationOption),
+    NoRoom,
+}
+
+// 'Compression first raises the generation and answers whether it overflowed, or sets it to 2 on reset, which is never an overflow.'
+pub fn renew_generation(header: &mut [u32], reset: bool) -> InvalidationOption
+    requires { ⌜ length (now header) ≡ headerWords ⌝ }
+    ensures { λ r. ⌜ ((ps ns gs vs : List ℕ) → Renewed largestGeneration reset (arena ps ns gs vs (now (header .entry))) (invalidationNumber r) (now (header .exit))) ⌝ }
+{
+    if reset {
+        let two = Gen::TWO;
+        header[3] = two.0;
+        return InvalidationOption::Success;
+    }
+    if header[1] == 0 {
+        return InvalidationOption::Success;
+    }
+    inc_generation(header)
+}
+
+// Writes the four words of a link behind those of count links: 'old slot, old generation, new slot, new generation'.
+pub fn tell_move(report: &mut [u32], count: usize, slot: u32, old: u32, new: u32)
+    requires { ⌜ (count < 65535) × (4 * count + 4 ≤ length (now report)) ⌝ }
+    ensures { λ _. ⌜ now (report .exit) ≡ sets (now (report .entry)) (4 * count) (slot ∷ old ∷ (count + 1) ∷ new ∷ []) ⌝ }
+{
+    let w = 4 * count;
+    report[w] = slot;
+    report[w + 1] = old;
+    report[w + 2] = (count + 1) as u32;
+    report[w + 3] = new;
+}
+
+// Reports every link of a stack of n slots, in slot order, and puts its new slot where its generation was. Answers how many there are.
+pub fn number_links(generation: &mut [u32], report: &mut [u32], n: usize, new: u32) -> usize
+    requires { ⌜ (n ≤ 65535) × (n ≤ length (now generation)) × (4 * length (linkSlots (now generation) n) ≤ length (now report)) ⌝ }
+    ensures { λ r. ⌜ ((ps ns vs h : List ℕ) → Numbered (arena ps ns (now (generation .entry)) vs h) n new (now (report .entry)) r (now (generation .exit)) (now (report .exit))) ⌝ }
+{
+    let mut count: usize = 0;
+    let mut i: usize = 0;
+    while i < n {
+        let old = generation[i];
+        if old != 0 {
+            tell_move(&mut *report, count, (i + 1) as u32, old, new);
+            count += 1;
+            generation[i] = count as u32;
+        }
+        i += 1;
+    }
+    count
+}
+
+// The new slot of the link in slot s; 0 of none.
+pub fn new_slot(numbers: &[u32], s: u16) -> u16
+    requires { ⌜ (s ≤ length (now numbers)) × (at (now numbers) s ≤ 65535) ⌝ }
+    ensures { λ r. ⌜ r ≡ at (now (numbers .entry)) s ⌝ }
+{
+    if s == 0 {
+        return 0;
+    }
+    numbers[s as usize - 1] as u16
+}
+
+// Moves the words of the links in a link column down in slot order, each neighbour under its new name.
+pub fn move_links(column: &mut [u16], numbers: &[u32], n: usize)
+    requires { ⌜ Movable (now numbers) n (now column) ⌝ }
+    ensures { λ _. ⌜ Carried (carriedName (now (numbers .entry)) (now (column .entry))) (linkSlots (now (numbers .entry)) n) n (now (column .entry)) (now (column .exit)) ⌝ }
+{
+    let mut count: usize = 0;
+    let mut i: usize = 0;
+    while i < n {
+        if numbers[i] != 0 {
+            let name = new_slot(numbers, column[i]);
+            column[count] = name;
+            count += 1;
+        }
+        i += 1;
+    }
+}
+
+// Moves the payloads of the links down in slot order.
+pub fn move_payloads(payload: &mut [u32], numbers: &[u32], n: usize)
+    requires { ⌜ (n ≤ length (now payload)) × (n ≤ length (now numbers)) ⌝ }
+    ensures { λ _. ⌜ Carried (at (now (payload .entry))) (linkSlots (now (numbers .entry)) n) n (now (payload .entry)) (now (payload .exit)) ⌝ }
+{
+    let mut count: usize = 0;
+    let mut i: usize = 0;
+    while i < n {
+        if numbers[i] != 0 {
+            payload[count] = payload[i];
+            count += 1;
+        }
+        i += 1;
+    }
+}

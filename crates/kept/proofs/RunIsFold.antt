@@ -1,0 +1,74 @@
+-- A run is the fold of its commands. 'Each answer word is 0 done, 100 done with generation overflow, 12, 13, or 16 for another code. A refused command
+-- changes nothing and the run goes on.' `reply-of-a-run` says what an accepted run replies, `run-goes-on` that what comes after some commands is a run
+-- on the arena that they left, `one-command` what a command answers and that a refused one changes nothing. Assumes nothing.
+use Prim.Native.Nat.{ℕ, suc, _≤_, _/_, _%_}
+use mathlib.Core.Path.{_≡_, refl, ap}
+use mathlib.Core.Bool.{Bool, true, false, cond}
+use mathlib.Core.List.{List, [], _∷_, _++_}
+use lib.ListN.{length}
+use borrow.Author.Tests.{eq-eqb, le-ltb}
+use Rattle.definitions.specs.Columns.{written}
+use Rattle.definitions.specs.Arena.{Arena}
+use Rattle.definitions.specs.Check.{verdict}
+use Rattle.definitions.specs.Reply.{Reply, reply}
+use Rattle.definitions.specs.Edit.{connect, breakPrev, breakNext, exchangeNext, doneNumber}
+use Rattle.definitions.specs.Remove.{remove}
+use Rattle.definitions.specs.Run.{Command, commandWords, commandsOf, apply, applied, answersOf, run}
+use Rattle.definitions.specs.Calls.{Run, accepted, replyTo}
+use Rattle.definitions.specs.Demand3.{Accepted}
+use Rattle.kept.proofs.RefusalChangesNothing.{refused-command}
+
+-- ---- one command
+
+-- the words that a command can answer
+pub data AnswerWord : ℕ → Type 0 where
+  done : AnswerWord 0
+  done-with-overflow : AnswerWord 100
+  stale : AnswerWord 12
+  neighbour : AnswerWord 13
+  no-code : AnswerWord 16
+
+answer-over : (over : Bool) → AnswerWord (doneNumber over)
+answer-over true = done-with-overflow
+answer-over false = done
+
+either-answers : (t : Bool) (r s : Reply) → AnswerWord (r .number) → AnswerWord (s .number) → AnswerWord (cond t r s .number)
+either-answers true r s u v = u
+either-answers false r s u v = v
+
+pub record OneCommand (a : Arena) (r : Reply) : Type 0 where
+  pub answer : AnswerWord (r .number)
+  pub refused : (Accepted r → ⊥) → r .arena ≡ a
+
+pub one-command : (top : ℕ) (a : Arena) (c : Command) → OneCommand a (apply top a c)
+unfolding apply connect breakPrev breakNext exchangeNext remove
+one-command top a c = record {
+  answer = search (either-answers, answer-over, done, stale, neighbour, no-code) depth 12;
+  refused = refused-command top a c .arena;
+}
+
+-- ---- all commands
+
+module _ (top : ℕ) where
+  -- some commands, and then others
+  pub run-goes-on : (a : Arena) (cs ds : List Command) → applied top a (cs ++ ds) ≡ applied top (applied top a cs) ds
+  unfolding applied
+  run-goes-on a [] ds = refl
+  run-goes-on a (c ∷ cs) ds = run-goes-on (apply top a c .arena) cs ds
+
+  pub answers-go-on : (a : Arena) (cs ds : List Command) → answersOf top a (cs ++ ds) ≡ answersOf top a cs ++ answersOf top (applied top a cs) ds
+  unfolding applied answersOf
+  answers-go-on a [] ds = refl
+  answers-go-on a (c ∷ cs) ds = ap (λ (l : List ℕ). apply top a c .number ∷ l) (answers-go-on (apply top a c .arena) cs ds)
+
+  -- one answer for each command
+  pub an-answer-each : (a : Arena) (cs : List Command) → length (answersOf top a cs) ≡ length cs
+  unfolding answersOf
+  an-answer-each a [] = refl
+  an-answer-each a (c ∷ cs) = ap suc (an-answer-each (apply top a c .arena) cs)
+
+-- a run on an arena that passes the check, with whole commands and room for their answers
+pub reply-of-a-run : (limit top : ℕ) (a : Arena) (ws answers : List ℕ) → verdict limit a ≡ 0 → length ws % commandWords ≡ 0 → length ws / commandWords ≤ length answers
+    → replyTo limit top (Run ws) a answers ≡ reply 0 [] (applied top a (commandsOf ws)) (written (answersOf top a (commandsOf ws)) answers)
+unfolding replyTo accepted run
+reply-of-a-run limit top a ws answers passes whole room = rw (eq-eqb (verdict limit a) 0 passes, eq-eqb (length ws % commandWords) 0 whole, le-ltb (length answers) (length ws / commandWords) room) refl

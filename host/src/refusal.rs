@@ -1,0 +1,63 @@
+//! What a call refuses, by document 01's number and in words.
+
+use std::error::Error;
+use std::fmt;
+
+/// A refusal. No refused call has written anything.
+#[derive(Clone, Copy, Debug, PartialEq, Eq)]
+pub struct Refusal {
+    number: u32,
+    broken: u32,
+}
+
+impl Refusal {
+    /// The refusal that a call's number and broken slot stand for, or none if the call was done (0 or 100).
+    pub fn of(number: u32, broken: u32) -> Option<Self> {
+        (number != 0 && number != 100).then_some(Self { number, broken })
+    }
+
+    /// Document 01's number.
+    pub fn number(self) -> u32 {
+        self.number
+    }
+
+    /// The slot that 11 names: a link whose neighbours do not agree with it.
+    pub fn broken(self) -> Option<u32> {
+        (self.number == 11).then_some(self.broken)
+    }
+
+    /// What the number means.
+    fn words(self) -> &'static str {
+        match self.number {
+            1 => "the columns differ in length or hold over 65,535 slots, or the header is not four words",
+            2 => "the current generation is below 2",
+            3 => "the link count or the stack length is over the capacity",
+            4 => "the link count is not the number of allocated slots",
+            5 => "there is a freelist root although no slot is free, or none although one is",
+            6 => "the freelist comes to pointer 0",
+            7 => "the freelist points past the stack",
+            8 => "the freelist comes to an allocated slot",
+            9 => "the freelist goes round without a slot that points at itself",
+            10 => "the freelist ends before it has come to every free slot",
+            11 => "a link's prev or next is past the stack, free, or does not name it back",
+            12 => "the pointer is stale: its slot is 0, past the stack or free, or the generations differ",
+            13 => "the link has a neighbour where none may be, or none where one must be",
+            14 => "the slice for the answer is too short, or the where-from column has another length",
+            15 => "a generation below 2 cannot be set",
+            16 => "the command words are not a multiple of five, or the command's code is unknown",
+            _ => "no rule of this number is known here",
+        }
+    }
+}
+
+impl fmt::Display for Refusal {
+    fn fmt(&self, f: &mut fmt::Formatter<'_>) -> fmt::Result {
+        write!(f, "refused with {}", self.number)?;
+        if let Some(slot) = self.broken() {
+            write!(f, " at slot {slot}")?;
+        }
+        write!(f, ": {}", self.words())
+    }
+}
+
+impl Error for Refusal {}

@@ -1,0 +1,110 @@
+//! Random calls with random arguments, on any arena.
+
+use crate::random::Random;
+use crate::{Arena, Call, Ptr, Walk};
+
+/// The header's word, 0 if the header has none.
+fn word(a: &Arena, place: usize) -> usize {
+    a.header.get(place).map_or(0, |&word| word as usize)
+}
+
+/// The stack length, as far as there are columns.
+fn stack(a: &Arena) -> usize {
+    word(a, crate::header::STACK).min(a.generation.len())
+}
+
+/// The link count, as far as there are columns.
+fn links(a: &Arena) -> usize {
+    word(a, crate::header::LINKS).min(a.generation.len())
+}
+
+/// A pointer, most often to a link, else with another slot or generation.
+fn some_ptr(r: &mut Random, a: &Arena) -> Ptr {
+    let past = r.below(3);
+    let slot = r.below(stack(a) + 1 + past);
+    let there = slot.checked_sub(1).and_then(|place| a.generation.get(place)).copied();
+    let generation = match r.below(12) {
+        0 => r.pick(&[0, 1, 2, u32::MAX]),
+        1 => word(a, crate::header::GENERATION) as u32,
+        _ => there.unwrap_or(5),
+    };
+    Ptr { slot: slot as u16, generation }
+}
+
+/// A state of a walk: one that is kept from before, or one of any words.
+fn some_walk(r: &mut Random, a: &Arena, kept: &[Walk]) -> Walk {
+    if !kept.is_empty() && !r.once_in(4) {
+        return r.pick(kept);
+    }
+    let mut word = || if r.once_in(12) { r.word() } else { r.below(stack(a) + 2) as u32 };
+    let (start, position) = (word(), word());
+    let left = if r.once_in(12) { r.word() } else { r.below(links(a) + 2) as u32 };
+    Walk { start, position, direction: r.pick(&[0, 0, 1, 2, u32::MAX]), left }
+}
+
+/// A run of up to a hundred commands, some of them unknown or with a slot over 65,535, seldom of a bad length.
+fn some_run(r: &mut Random, a: &Arena) -> Call {
+    let commands = r.below(100);
+    let mut words = Vec::new();
+    for _ in 0..commands {
+        let (p, q) = (some_ptr(r, a), some_ptr(r, a));
+        let over = if r.once_in(20) { 65_536 } else { 0 };
+        words.extend([
+            r.pick(&[1, 1, 2, 3, 4, 4, 5, 0, 6, u32::MAX]),
+            u32::from(p.slot) + over,
+            p.generation,
+            q.slot.into(),
+            q.generation,
+        ]);
+    }
+    if r.once_in(10) {
+        words.push(r.word());
+    }
+    let answers = if r.once_in(10) { commands / 2 } else { commands + r.below(3) };
+    Call::Run(words, vec![r.word(); answers])
+}
+
+/// A random call; removals are rare, since nothing is ever added.
+pub fn some_call(r: &mut Random, a: &Arena, kept: &[Walk]) -> Call {
+    let (p, q) = (some_ptr(r, a), some_ptr(r, a));
+    let noise = r.word();
+    match r.below(60) {
+        0..=3 => Call::GetLink(p),
+        4..=6 => Call::GetLinkNoGen(p),
+        7..=9 => Call::AreNeighbors(p, q),
+        10..=12 => Call::WalkStart(p),
+        13..=22 => Call::WalkStep(some_walk(r, a, kept)),
+        23..=34 => Call::Connect(p, q),
+        35..=37 => Call::BreakPrev(p),
+        38..=40 => Call::BreakNext(p),
+        41..=48 => Call::ExchangeNext(p, q),
+        49..=51 => Call::Remove(p),
+        52 => Call::Drain(p, vec![noise; r.pick(&[0, 40, 5 * links(a), 5 * links(a) + 7])]),
+        53 => Call::SetGeneration(r.pick(&[0, 1, 2, 5, u32::MAX - 1, u32::MAX])),
+        54 => Call::IncGeneration,
+        55 => Call::CanonicalizeFreelist,
+        56 => some_run(r, a),
+        57 => {
+            let words = (4 * links(a) + r.below(3)).saturating_sub(1);
+            Call::CompressWith(r.below(2) as u32, vec![noise; words])
+        }
+        58 => {
+            let places = if r.once_in(8) { a.capacity() + 1 } else { a.capacity() };
+            Call::CompressCanonical(r.below(2) as u32, vec![noise as u16; places])
+        }
+        _ => Call::Check,
+    }
+}
+
+/// Keeps the state that a walk's start or step leaves, for a later step on an arena that may have changed.
+pub fn keep(kept: &mut Vec<Walk>, call: &Call, words: &[u32; 6]) {
+    let [start, position, direction, left] = match call {
+        Call::WalkStart(_) => [words[0], words[1], words[2], words[3]],
+        Call::WalkStep(_) => [words[2], words[3], words[4], words[5]],
+        _ => return,
+    };
+    if kept.len() == 8 {
+        kept.remove(0);
+    }
+    kept.push(Walk { start, position, direction, left });
+}

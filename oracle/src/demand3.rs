@@ -1,0 +1,157 @@
+//! Demand 3 as a test of one canonical compression: what document 01's 'words of demand 3' say of the old and the new
+//! words, looked at by a program.
+
+use std::collections::BTreeMap;
+
+use crate::{Arena, model};
+
+/// A chain as a list of words, open or closed.
+#[derive(Clone, Debug, PartialEq, Eq, PartialOrd, Ord)]
+pub struct Chain {
+    /// Whether its last next names its first
+    pub closed: bool,
+    /// Its slots, or its payloads, in next order; a closed one in its least rotation
+    pub words: Vec<u32>,
+}
+
+impl Chain {
+    /// A chain, a closed one turned to its least rotation so that rotations are equal.
+    fn new(closed: bool, mut words: Vec<u32>) -> Self {
+        if closed {
+            let turn = least_rotation(&words);
+            words.rotate_left(turn);
+        }
+        Self { closed, words }
+    }
+}
+
+/// Where the least rotation of a list begins.
+fn least_rotation(words: &[u32]) -> usize {
+    let n = words.len();
+    let (mut i, mut j, mut k) = (0, 1, 0);
+    while i < n && j < n && k < n {
+        match words[(i + k) % n].cmp(&words[(j + k) % n]) {
+            std::cmp::Ordering::Equal => {
+                k += 1;
+                continue;
+            }
+            std::cmp::Ordering::Greater => i += k + 1,
+            std::cmp::Ordering::Less => j += k + 1,
+        }
+        if i == j {
+            j += 1;
+        }
+        k = 0;
+    }
+    i.min(j)
+}
+
+/// The slots of every chain of an arena that passes the check, each chain once, in next order.
+pub fn chains(a: &Arena) -> Vec<(bool, Vec<usize>)> {
+    let mut seen = vec![false; a.stack() + 1];
+    let mut chains = Vec::new();
+    let starts = a.link_slots().filter(|&s| a.prev[s - 1] == 0);
+    for s in starts.chain(a.link_slots()) {
+        if !seen[s] {
+            let closed = a.prev[s - 1] != 0;
+            let slots = model::chain_of(a, s);
+            for &t in &slots {
+                seen[t] = true;
+            }
+            chains.push((closed, slots));
+        }
+    }
+    chains
+}
+
+/// The chains of payloads, each as often as it is there.
+pub fn payload_chains(a: &Arena) -> BTreeMap<Chain, usize> {
+    let mut counted = BTreeMap::new();
+    for (closed, slots) in chains(a) {
+        let payloads = slots.iter().map(|&s| a.payload[s - 1]).collect();
+        *counted.entry(Chain::new(closed, payloads)).or_insert(0) += 1;
+    }
+    counted
+}
+
+/// The pieces: slots 1 to n cut after each slot whose next is not the following slot.
+fn pieces(a: &Arena) -> Vec<Vec<usize>> {
+    let mut pieces = vec![Vec::new()];
+    for s in 1..=a.links() {
+        pieces.last_mut().expect("never empty").push(s);
+        if a.next[s - 1] as usize != s + 1 {
+            pieces.push(Vec::new());
+        }
+    }
+    pieces.retain(|piece| !piece.is_empty());
+    pieces
+}
+
+/// The first sentence of demand 3 that one compression does not keep, if there is one.
+pub fn broken(old: &Arena, new: &Arena, where_from: &[u16]) -> Option<&'static str> {
+    let n = old.links();
+    if new.header[..3] != [n as u32, n as u32, 0] {
+        return Some("stack length and link count are n, the root is 0");
+    }
+    if model::check(new) != 0 {
+        return Some("the compressed arena passes the check");
+    }
+    let mut came: Vec<usize> = where_from[..n].iter().map(|&s| s.into()).collect();
+    came.sort_unstable();
+    if came != old.link_slots().collect::<Vec<_>>() {
+        return Some("the where-from places hold each old allocated slot exactly once");
+    }
+    let from = |s: u16| if s == 0 { 0 } else { where_from[s as usize - 1] };
+    for s in 1..=n {
+        let was = where_from[s - 1] as usize;
+        if new.payload[s - 1] != old.payload[was - 1] {
+            return Some("the payload is carried");
+        }
+        if from(new.prev[s - 1]) != old.prev[was - 1] || from(new.next[s - 1]) != old.next[was - 1] {
+            return Some("what prev and next came from are the old prev and next");
+        }
+    }
+    let old_slots = |(closed, slots): (bool, Vec<usize>)| {
+        Chain::new(closed, slots.into_iter().map(|s| s as u32).collect())
+    };
+    let mut old_chains: Vec<Chain> = chains(old).into_iter().map(old_slots).collect();
+    let mut piece_chains = Vec::new();
+    for piece in pieces(new) {
+        let (first, last) = (piece[0], piece[piece.len() - 1]);
+        let end = new.next[last - 1] as usize;
+        if end != 0 && end != first {
+            return Some("a piece that is not closed ends in 0");
+        }
+        let came = piece.iter().map(|&s| where_from[s - 1].into()).collect();
+        piece_chains.push(Chain::new(end == first, came));
+    }
+    old_chains.sort_unstable();
+    piece_chains.sort_unstable();
+    if old_chains != piece_chains {
+        return Some("the pieces came from the old chains, each once");
+    }
+    if payload_chains(old) != payload_chains(new) {
+        return Some("the chains of payloads are the same, each as often");
+    }
+    None
+}
+
+/// The first sentence about a further compression that is not kept: no link has moved, and the where-from places of an
+/// accepted call read 1 to n.
+pub fn moved(first: &Arena, later: &Arena, where_from: Option<&[u16]>) -> Option<&'static str> {
+    let n = first.links();
+    if first.header[..3] != later.header[..3] {
+        return Some("stack length, link count and root are as the first one left them");
+    }
+    if first.prev[..n] != later.prev[..n]
+        || first.next[..n] != later.next[..n]
+        || first.payload[..n] != later.payload[..n]
+    {
+        return Some("prev, next and payload are as the first one left them");
+    }
+    let reads = |from: &[u16]| from[..n].iter().enumerate().all(|(k, &s)| s as usize == k + 1);
+    if where_from.is_some_and(|from| !reads(from)) {
+        return Some("the where-from places read 1 to n");
+    }
+    None
+}

@@ -1,0 +1,562 @@
+//! Document 01 as plain Rust, written from its sentences: slow where that is plainer, and the judge of what the crate
+//! does not tell, as 12 from 13.
+
+use crate::header::{GENERATION, LINKS, ROOT, STACK};
+use crate::{Arena, Call, LIMIT, Ptr, Reply, Walk};
+
+/// Makes one call. Every call first gives 1 to 11.
+pub fn perform(a: &mut Arena, call: &mut Call) -> Reply {
+    let number = check(a);
+    if number != 0 {
+        return refused(a, number, call);
+    }
+    match call {
+        Call::Check => Reply::number(0),
+        Call::GetLink(p) => get_link(a, *p),
+        Call::GetLinkNoGen(p) => get_link_no_gen(a, *p),
+        Call::AreNeighbors(p, q) => Reply::new(0, &[u32::from(are_neighbors(a, *p, *q))]),
+        Call::WalkStart(p) => walk_start(a, *p),
+        Call::WalkStep(walk) => walk_step(a, *walk),
+        Call::Connect(p, q) => Reply::number(connect(a, *p, *q)),
+        Call::BreakPrev(p) => Reply::number(break_prev(a, *p)),
+        Call::BreakNext(p) => Reply::number(break_next(a, *p)),
+        Call::ExchangeNext(p, q) => Reply::number(exchange_next(a, *p, *q)),
+        Call::Remove(p) => remove(a, *p),
+        Call::Drain(p, report) => drain(a, *p, report),
+        Call::SetGeneration(generation) => Reply::number(set_generation(a, *generation)),
+        Call::IncGeneration => Reply::number(overflow_number(raise_generation(a))),
+        Call::CanonicalizeFreelist => Reply::number(canonicalize_freelist(a)),
+        Call::Run(commands, answers) => Reply::number(run(a, commands, answers)),
+        Call::CompressWith(reset, report) => Reply::number(compress_with(a, *reset != 0, report)),
+        Call::CompressCanonical(reset, from) => Reply::number(compress_canonical(a, *reset != 0, from)),
+    }
+}
+
+/// The reply of a call on an arena that the check refuses: 11 names a slot, and a step hands back its state.
+fn refused(a: &Arena, number: u32, call: &Call) -> Reply {
+    let mut reply = match call {
+        Call::WalkStep(walk) => step_reply(number, None, *walk),
+        _ => Reply::number(number),
+    };
+    if number == 11 {
+        reply.broken = (1..=a.header[STACK]).find(|&s| rule11_fails(a, s)).unwrap_or(0);
+    }
+    reply
+}
+
+// The check
+
+/// The number of the first rule that the arena breaks, 0 if it passes.
+pub fn check(a: &Arena) -> u32 {
+    let capacity = a.prev.len();
+    let others = [a.next.len(), a.generation.len(), a.payload.len()];
+    if others != [capacity; 3] || capacity > LIMIT || a.header.len() != 4 {
+        return 1;
+    }
+    if a.current() < 2 {
+        return 2;
+    }
+    if a.links() > capacity || a.stack() > capacity {
+        return 3;
+    }
+    let allocated = a.link_slots().count();
+    if a.links() != allocated {
+        return 4;
+    }
+    let free = a.stack() - allocated;
+    if (a.root() == 0) != (free == 0) {
+        return 5;
+    }
+    let number = if a.root() == 0 { 0 } else { freelist(a, free) };
+    if number != 0 {
+        return number;
+    }
+    if (1..=a.header[STACK]).any(|s| rule11_fails(a, s)) { 11 } else { 0 }
+}
+
+/// The freelist walk from the root, rules 6 to 10, where `free` slots are free.
+fn freelist(a: &Arena, free: usize) -> u32 {
+    let mut pointer = a.root() as usize;
+    for visit in 1..=a.stack() + 2 {
+        if pointer == 0 {
+            return 6;
+        }
+        if pointer > a.stack() {
+            return 7;
+        }
+        if a.is_link(pointer) {
+            return 8;
+        }
+        let following = a.next[pointer - 1] as usize;
+        if following == pointer {
+            return if visit < free { 10 } else { 0 };
+        }
+        pointer = following;
+    }
+    9
+}
+
+/// Whether slot `s` holds a link whose prev or next is past the stack, free, or doesn't name it back.
+pub fn rule11_fails(a: &Arena, s: u32) -> bool {
+    let s = s as usize;
+    if !a.is_link(s) {
+        return false;
+    }
+    let before = a.prev[s - 1] as usize;
+    let after = a.next[s - 1] as usize;
+    let bad_before = before != 0 && !(a.is_link(before) && a.next[before - 1] as usize == s);
+    let bad_after = after != 0 && !(a.is_link(after) && a.prev[after - 1] as usize == s);
+    bad_before || bad_after
+}
+
+// Reading
+
+/// Whether a pointer is stale: its slot is 0, past the stack or free, or the generations differ.
+fn stale(a: &Arena, p: Ptr) -> bool {
+    let s = p.slot as usize;
+    !a.is_link(s) || a.generation[s - 1] != p.generation
+}
+
+/// The word of a column at slot `s`.
+fn at(column: &[u16], s: u16) -> u16 {
+    column[s as usize - 1]
+}
+
+/// Writes the word of a column at slot `s`; slot 0 has none.
+fn put(column: &mut [u16], s: u16, word: u16) {
+    if s != 0 {
+        column[s as usize - 1] = word;
+    }
+}
+
+/// The generation of the neighbour in slot `s`, 0 where there is no neighbour.
+fn neighbour_generation(a: &Arena, s: u16) -> u32 {
+    if s == 0 { 0 } else { a.generation[s as usize - 1] }
+}
+
+/// The link's neighbours with their generations, and its payload.
+fn get_link(a: &Arena, p: Ptr) -> Reply {
+    if stale(a, p) {
+        return Reply::number(12);
+    }
+    let (prev, next) = (at(&a.prev, p.slot), at(&a.next, p.slot));
+    let payload = a.payload[p.slot as usize - 1];
+    Reply::new(
+        0,
+        &[prev.into(), neighbour_generation(a, prev), next.into(), neighbour_generation(a, next), payload],
+    )
+}
+
+/// The link's neighbours and its payload.
+fn get_link_no_gen(a: &Arena, p: Ptr) -> Reply {
+    if stale(a, p) {
+        return Reply::number(12);
+    }
+    let payload = a.payload[p.slot as usize - 1];
+    Reply::new(0, &[at(&a.prev, p.slot).into(), at(&a.next, p.slot).into(), payload])
+}
+
+/// Whether both pointers name links and the second's is the first's next.
+fn are_neighbors(a: &Arena, p: Ptr, q: Ptr) -> bool {
+    !stale(a, p) && !stale(a, q) && at(&a.next, p.slot) == q.slot
+}
+
+// The walk
+
+/// A walk that begins at the pointer's link, with as many advances as there are links.
+fn walk_start(a: &Arena, p: Ptr) -> Reply {
+    if stale(a, p) {
+        return Reply::number(12);
+    }
+    Reply::new(0, &[p.slot.into(), p.slot.into(), 0, a.header[LINKS]])
+}
+
+/// One step: the link at the position, or none, and the next state.
+fn walk_step(a: &Arena, walk: Walk) -> Reply {
+    if walk.left == 0 {
+        return step_reply(0, None, walk);
+    }
+    let lowered = Walk { left: walk.left - 1, ..walk };
+    let position = walk.position as usize;
+    if !a.is_link(position) {
+        return step_reply(0, None, Walk { position: 0, ..lowered });
+    }
+    step_reply(0, Some(a.ptr(position)), advanced(a, lowered))
+}
+
+/// The state after the link at its position has been answered.
+fn advanced(a: &Arena, walk: Walk) -> Walk {
+    let here = walk.position as usize - 1;
+    if walk.direction != 0 {
+        return Walk { position: a.prev[here].into(), ..walk };
+    }
+    let next = u32::from(a.next[here]);
+    if next == 0 {
+        let start = walk.start as usize;
+        let before = if a.is_link(start) { a.prev[start - 1] } else { 0 };
+        return Walk { direction: 1, position: before.into(), ..walk };
+    }
+    Walk { position: if next == walk.start { 0 } else { next }, ..walk }
+}
+
+/// The reply of a step: the pointer that it answers, 0 and 0 for none, and the state.
+fn step_reply(number: u32, answer: Option<Ptr>, walk: Walk) -> Reply {
+    let p = answer.unwrap_or(Ptr { slot: 0, generation: 0 });
+    Reply::new(number, &[p.slot.into(), p.generation, walk.start, walk.position, walk.direction, walk.left])
+}
+
+/// The slots of the chain of the link in slot `s`, in the walk's order.
+pub fn chain_of(a: &Arena, s: usize) -> Vec<usize> {
+    let mut slots = vec![s];
+    let mut after = a.next[s - 1] as usize;
+    while after != 0 && after != s {
+        slots.push(after);
+        after = a.next[after - 1] as usize;
+    }
+    if after == 0 {
+        let mut before = a.prev[s - 1] as usize;
+        while before != 0 {
+            slots.push(before);
+            before = a.prev[before - 1] as usize;
+        }
+    }
+    slots
+}
+
+// Edits
+
+/// Joins the end p to the start q.
+fn connect(a: &mut Arena, p: Ptr, q: Ptr) -> u32 {
+    if stale(a, p) {
+        return 12;
+    }
+    if at(&a.next, p.slot) != 0 {
+        return 13;
+    }
+    if stale(a, q) {
+        return 12;
+    }
+    if at(&a.prev, q.slot) != 0 {
+        return 13;
+    }
+    put(&mut a.next, p.slot, q.slot);
+    put(&mut a.prev, q.slot, p.slot);
+    0
+}
+
+/// Parts the link from its prev.
+fn break_prev(a: &mut Arena, p: Ptr) -> u32 {
+    if stale(a, p) {
+        return 12;
+    }
+    let before = at(&a.prev, p.slot);
+    if before == 0 {
+        return 13;
+    }
+    put(&mut a.next, before, 0);
+    put(&mut a.prev, p.slot, 0);
+    0
+}
+
+/// Parts the link from its next.
+fn break_next(a: &mut Arena, p: Ptr) -> u32 {
+    if stale(a, p) {
+        return 12;
+    }
+    let after = at(&a.next, p.slot);
+    if after == 0 {
+        return 13;
+    }
+    put(&mut a.prev, after, 0);
+    put(&mut a.next, p.slot, 0);
+    0
+}
+
+/// Exchanges what comes after the two links.
+fn exchange_next(a: &mut Arena, p: Ptr, q: Ptr) -> u32 {
+    if stale(a, p) || stale(a, q) {
+        return 12;
+    }
+    let (after_p, after_q) = (at(&a.next, p.slot), at(&a.next, q.slot));
+    if after_p == 0 || after_q == 0 {
+        return 13;
+    }
+    put(&mut a.next, p.slot, after_q);
+    put(&mut a.prev, after_q, p.slot);
+    put(&mut a.next, q.slot, after_p);
+    put(&mut a.prev, after_p, q.slot);
+    0
+}
+
+// Removal, generations, freelist
+
+/// The generation after this one, and whether it overflowed.
+fn generational_inc(generation: u32) -> (u32, bool) {
+    match generation.checked_add(1) {
+        Some(next) => (next, false),
+        None => (2, true),
+    }
+}
+
+/// Raises the current generation and tells whether it overflowed.
+fn raise_generation(a: &mut Arena) -> bool {
+    let (next, overflowed) = generational_inc(a.current());
+    a.header[GENERATION] = next;
+    overflowed
+}
+
+/// The number of a call that is done: 100 with generation overflow, else 0.
+fn overflow_number(overflowed: bool) -> u32 {
+    if overflowed { 100 } else { 0 }
+}
+
+/// Writes 0 in all four columns of slot `s`.
+fn zero(a: &mut Arena, s: usize) {
+    a.prev[s - 1] = 0;
+    a.next[s - 1] = 0;
+    a.generation[s - 1] = 0;
+    a.payload[s - 1] = 0;
+}
+
+/// Takes slot `s` out: the last slot of the stack is popped, any other becomes the freelist root.
+fn free_slot(a: &mut Arena, s: usize) {
+    zero(a, s);
+    if s == a.stack() {
+        a.header[STACK] -= 1;
+    } else {
+        let old_root = a.root();
+        a.next[s - 1] = if old_root == 0 { s as u16 } else { old_root as u16 };
+        a.header[ROOT] = s as u32;
+    }
+    a.header[LINKS] -= 1;
+}
+
+/// Removes the link in slot `s`, joins its neighbours and tells whether the generation overflowed.
+fn remove_slot(a: &mut Arena, s: usize) -> bool {
+    let (before, after) = (a.prev[s - 1], a.next[s - 1]);
+    put(&mut a.next, before, after);
+    put(&mut a.prev, after, before);
+    free_slot(a, s);
+    raise_generation(a)
+}
+
+/// Removes a link and answers its prev, next and payload as they were.
+fn remove(a: &mut Arena, p: Ptr) -> Reply {
+    if stale(a, p) {
+        return Reply::number(12);
+    }
+    let s = p.slot as usize;
+    let words = [a.prev[s - 1].into(), a.next[s - 1].into(), a.payload[s - 1]];
+    let overflowed = remove_slot(a, s);
+    Reply::new(overflow_number(overflowed), &words)
+}
+
+/// Removes the whole chain in the walk's order, and reports each item as it is at its own removal.
+fn drain(a: &mut Arena, p: Ptr, report: &mut [u32]) -> Reply {
+    if stale(a, p) {
+        return Reply::number(12);
+    }
+    let slots = chain_of(a, p.slot as usize);
+    if report.len() < 5 * slots.len() {
+        return Reply::number(14);
+    }
+    let mut overflowed = 0;
+    for (item, &s) in slots.iter().enumerate() {
+        let place = s - 1;
+        report[5 * item] = s as u32;
+        report[5 * item + 1] = a.generation[place];
+        report[5 * item + 2] = a.prev[place].into();
+        report[5 * item + 3] = a.next[place].into();
+        report[5 * item + 4] = a.payload[place];
+        if remove_slot(a, s) {
+            overflowed = item as u32 + 1;
+        }
+    }
+    Reply::new(0, &[slots.len() as u32, overflowed])
+}
+
+/// Sets the current generation.
+fn set_generation(a: &mut Arena, generation: u32) -> u32 {
+    if generation < 2 {
+        return 15;
+    }
+    a.header[GENERATION] = generation;
+    0
+}
+
+/// Pops free end slots, then lists the rest in rising order, the highest pointing at itself.
+fn canonicalize_freelist(a: &mut Arena) -> u32 {
+    while a.stack() > 0 && !a.is_link(a.stack()) {
+        zero(a, a.stack());
+        a.header[STACK] -= 1;
+    }
+    let free: Vec<usize> = (1..=a.stack()).filter(|&s| !a.is_link(s)).collect();
+    for (k, &s) in free.iter().enumerate() {
+        a.next[s - 1] = *free.get(k + 1).unwrap_or(&s) as u16;
+    }
+    a.header[ROOT] = free.first().map_or(0, |&s| s as u32);
+    0
+}
+
+// The run of edits
+
+/// Applies the commands in order and writes an answer for each.
+fn run(a: &mut Arena, commands: &[u32], answers: &mut [u32]) -> u32 {
+    if !commands.len().is_multiple_of(5) {
+        return 16;
+    }
+    if answers.len() < commands.len() / 5 {
+        return 14;
+    }
+    for (command, answer) in commands.chunks_exact(5).zip(answers) {
+        *answer = apply(a, command);
+    }
+    0
+}
+
+/// A pointer of a command. A slot over 65,535 is stale, as slot 0 is.
+fn command_ptr(slot: u32, generation: u32) -> Ptr {
+    Ptr { slot: u16::try_from(slot).unwrap_or(0), generation }
+}
+
+/// Applies one command and answers its word.
+fn apply(a: &mut Arena, command: &[u32]) -> u32 {
+    let p = command_ptr(command[1], command[2]);
+    let q = command_ptr(command[3], command[4]);
+    match command[0] {
+        1 => connect(a, p, q),
+        2 => break_prev(a, p),
+        3 => break_next(a, p),
+        4 => exchange_next(a, p, q),
+        5 => remove(a, p).number,
+        _ => 16,
+    }
+}
+
+// The compressions
+
+/// Raises the generation, or sets it to 2 on reset, and tells whether it overflowed. Without links and without reset it
+/// stays.
+fn compression_generation(a: &mut Arena, reset: bool) -> bool {
+    if reset {
+        a.header[GENERATION] = 2;
+        false
+    } else if a.links() == 0 {
+        false
+    } else {
+        raise_generation(a)
+    }
+}
+
+/// Ends a compression whose links are in slots 1 to n: every link gets the generation, the other slots of the old stack
+/// are popped, and there is no root.
+fn compressed(a: &mut Arena) {
+    let n = a.links();
+    let generation = a.current();
+    a.generation[..n].fill(generation);
+    for s in n + 1..=a.stack() {
+        zero(a, s);
+    }
+    a.header[STACK] = n as u32;
+    a.header[ROOT] = 0;
+}
+
+/// Order-preserving: links move down in slot order, and the report says from where to where.
+fn compress_with(a: &mut Arena, reset: bool, report: &mut [u32]) -> u32 {
+    if report.len() < 4 * a.links() {
+        return 14;
+    }
+    let old = a.clone();
+    let overflowed = compression_generation(a, reset);
+    let mut new_slot = vec![0u16; old.stack() + 1];
+    for (k, s) in old.link_slots().enumerate() {
+        new_slot[s] = k as u16 + 1;
+        report[4 * k] = s as u32;
+        report[4 * k + 1] = old.generation[s - 1];
+        report[4 * k + 2] = k as u32 + 1;
+        report[4 * k + 3] = a.current();
+    }
+    for (k, s) in old.link_slots().enumerate() {
+        a.prev[k] = new_slot[old.prev[s - 1] as usize];
+        a.next[k] = new_slot[old.next[s - 1] as usize];
+        a.payload[k] = old.payload[s - 1];
+    }
+    compressed(a);
+    overflow_number(overflowed)
+}
+
+/// Canonical: chain by chain, each link is put in slot i by exchanging slots with what is there.
+fn compress_canonical(a: &mut Arena, reset: bool, where_from: &mut [u16]) -> u32 {
+    if where_from.len() != a.capacity() {
+        return 14;
+    }
+    let overflowed = compression_generation(a, reset);
+    let mut from: Vec<u16> = (0..=a.stack() as u16).collect();
+    let mut i = 1;
+    while let Some(lowest) = (i..=a.stack()).find(|&s| a.is_link(s)) {
+        let first = i;
+        let mut target = start_of(a, lowest);
+        loop {
+            exchange_slots(a, &mut from, i, target);
+            target = a.next[i - 1] as usize;
+            i += 1;
+            if target == 0 || target == first {
+                break;
+            }
+        }
+    }
+    let n = a.links();
+    for s in 1..=a.stack() {
+        where_from[s - 1] = if s <= n { from[s] } else { 0 };
+    }
+    compressed(a);
+    overflow_number(overflowed)
+}
+
+/// The start of the chain of the link in slot `s`; a closed chain has none, and `s` stays.
+fn start_of(a: &Arena, s: usize) -> usize {
+    let mut first = s;
+    loop {
+        match a.prev[first - 1] as usize {
+            0 => return first,
+            before if before == s => return s,
+            before => first = before,
+        }
+    }
+}
+
+/// Exchanges slots `i` and `t` with all their words, and renames both in their neighbours.
+fn exchange_slots(a: &mut Arena, from: &mut [u16], i: usize, t: usize) {
+    if i == t {
+        return;
+    }
+    let exchanged = |s: usize| {
+        if s == i {
+            t
+        } else if s == t {
+            i
+        } else {
+            s
+        }
+    };
+    let mut touched = vec![i, t];
+    for s in [i, t] {
+        if a.is_link(s) {
+            touched.extend([a.prev[s - 1] as usize, a.next[s - 1] as usize]);
+        }
+    }
+    touched.retain(|&s| s != 0);
+    touched.sort_unstable();
+    touched.dedup();
+    a.prev.swap(i - 1, t - 1);
+    a.next.swap(i - 1, t - 1);
+    a.generation.swap(i - 1, t - 1);
+    a.payload.swap(i - 1, t - 1);
+    from.swap(i, t);
+    for s in touched.into_iter().map(exchanged) {
+        if a.is_link(s) {
+            a.prev[s - 1] = exchanged(a.prev[s - 1] as usize) as u16;
+            a.next[s - 1] = exchanged(a.next[s - 1] as usize) as u16;
+        }
+    }
+}

@@ -1,0 +1,322 @@
+//! Random arenas from a seed: whole ones of every kind, and damage to them.
+
+use crate::header::{GENERATION, LINKS, ROOT, STACK};
+use crate::{Arena, LIMIT};
+
+/// A xorshift generator; the same seed gives the same numbers everywhere.
+pub struct Random(u64);
+
+impl Random {
+    /// A generator that starts from a seed.
+    pub fn new(seed: u64) -> Self {
+        let mut random = Self(seed.wrapping_mul(0x9e37_79b9_7f4a_7c15) | 1);
+        for _ in 0..8 {
+            random.bits();
+        }
+        random
+    }
+
+    /// The next 64 bits.
+    pub fn bits(&mut self) -> u64 {
+        self.0 ^= self.0 >> 12;
+        self.0 ^= self.0 << 25;
+        self.0 ^= self.0 >> 27;
+        self.0.wrapping_mul(0x2545_f491_4f6c_dd1d)
+    }
+
+    /// The next 32 bits.
+    pub fn word(&mut self) -> u32 {
+        (self.bits() >> 32) as u32
+    }
+
+    /// A number below `n`, which is not 0.
+    pub fn below(&mut self, n: usize) -> usize {
+        ((self.bits() >> 32) as usize * n) >> 32
+    }
+
+    /// True once in `n` times.
+    pub fn once_in(&mut self, n: usize) -> bool {
+        self.below(n) == 0
+    }
+
+    /// One of the given values.
+    pub fn pick<T: Copy>(&mut self, of: &[T]) -> T {
+        of[self.below(of.len())]
+    }
+
+    /// Puts the values in a random order.
+    pub fn shuffle<T>(&mut self, values: &mut [T]) {
+        for k in (1..values.len()).rev() {
+            values.swap(k, self.below(k + 1));
+        }
+    }
+}
+
+/// How the links of an arena are chained.
+#[derive(Clone, Copy, Debug, PartialEq, Eq)]
+pub struct Style {
+    /// Of 16 slots, how many are free
+    pub free: usize,
+    /// The longest chain, 1 for lone links
+    pub longest: usize,
+    /// Whether every chain is as long as the longest
+    pub even: bool,
+    /// Whether a chain's slots lie anywhere, or rise one by one
+    pub scattered: bool,
+    /// Of 16 chains, how many are closed
+    pub closed: usize,
+}
+
+impl Style {
+    /// A random style for an arena of so many slots.
+    pub fn random(r: &mut Random, stack: usize) -> Self {
+        Self {
+            free: r.pick(&[0, 0, 1, 3, 6, 8, 15, 16]),
+            longest: r.pick(&[1, 2, 3, 8, 40, stack.max(1)]),
+            even: r.once_in(3),
+            scattered: !r.once_in(3),
+            closed: r.pick(&[0, 2, 8, 16]),
+        }
+    }
+}
+
+/// An arena that passes the check, with noise in every word that is not read.
+pub fn whole(r: &mut Random, capacity: usize, stack: usize, style: Style) -> Arena {
+    let mut a = noise(r, capacity);
+    let (mut links, mut free): (Vec<usize>, Vec<usize>) =
+        (1..=stack).partition(|_| r.below(16) >= style.free);
+    if style.scattered {
+        r.shuffle(&mut links);
+        r.shuffle(&mut free);
+    }
+    generations(r, &mut a, &links);
+    for &s in &free {
+        a.generation[s - 1] = 0;
+    }
+    list_free(&mut a, &free);
+    let mut rest = &links[..];
+    while !rest.is_empty() {
+        let length = if style.even { style.longest } else { 1 + r.below(style.longest) };
+        let (slots, after) = rest.split_at(length.min(rest.len()));
+        chain(&mut a, slots, r.below(16) < style.closed);
+        rest = after;
+    }
+    a.header[STACK] = stack as u32;
+    a.header[LINKS] = links.len() as u32;
+    a
+}
+
+/// An arena of any style with up to `most` slots, and some room past them.
+pub fn any_whole(r: &mut Random, most: usize) -> Arena {
+    let stack = r.below(most + 1);
+    let capacity = (stack + r.pick(&[0, 0, 1, 2, 5])).min(LIMIT);
+    let style = Style::random(r, stack);
+    whole(r, capacity, stack, style)
+}
+
+/// An arena of every kind at once, for measuring: an eighth of its slots free, a third of its links lone, a third on
+/// chains of eight that lie in order, a third on scattered chains of up to 64, and of the chains an eighth closed.
+pub fn mixed(r: &mut Random, slots: usize) -> Arena {
+    let mut a = noise(r, slots);
+    let (links, mut free): (Vec<usize>, Vec<usize>) = (1..=slots).partition(|_| !r.once_in(8));
+    r.shuffle(&mut free);
+    for &s in &links {
+        a.generation[s - 1] = 5;
+    }
+    for &s in &free {
+        a.generation[s - 1] = 0;
+    }
+    list_free(&mut a, &free);
+    let (lone, rest) = links.split_at(links.len() / 3);
+    let (in_order, scattered) = rest.split_at(rest.len() / 2);
+    let mut scattered = scattered.to_vec();
+    r.shuffle(&mut scattered);
+    for s in lone.chunks(1) {
+        chain(&mut a, s, r.once_in(8));
+    }
+    for slots in in_order.chunks(8) {
+        chain(&mut a, slots, r.once_in(8));
+    }
+    for slots in scattered.chunks(64) {
+        chain(&mut a, slots, r.once_in(8));
+    }
+    a.header = vec![slots as u32, links.len() as u32, a.header[ROOT], 5];
+    a
+}
+
+/// Columns of noise, generations among them, and a header of zeros.
+fn noise(r: &mut Random, capacity: usize) -> Arena {
+    let mut a = Arena::empty(capacity);
+    a.prev.fill_with(|| r.word() as u16);
+    a.next.fill_with(|| r.word() as u16);
+    a.generation.fill_with(|| r.word());
+    a.payload.fill_with(|| r.word());
+    a.header.fill(0);
+    a
+}
+
+/// Gives the links and the header generations: all alike, or mixed and around the largest.
+fn generations(r: &mut Random, a: &mut Arena, links: &[usize]) {
+    const EDGES: [u32; 8] = [1, 2, 3, 4, 5, u32::MAX - 2, u32::MAX - 1, u32::MAX];
+    let alike = r.once_in(2);
+    let current = match r.below(4) {
+        0 => 2 + r.word() % 1000,
+        _ => r.pick(&EDGES[1..]),
+    };
+    for &s in links {
+        a.generation[s - 1] = if alike { current } else { r.pick(&EDGES) };
+    }
+    a.header[GENERATION] = current;
+}
+
+/// Lists the free slots in the given order, the last pointing at itself.
+fn list_free(a: &mut Arena, free: &[usize]) {
+    for (k, &s) in free.iter().enumerate() {
+        a.next[s - 1] = *free.get(k + 1).unwrap_or(&s) as u16;
+    }
+    a.header[ROOT] = free.first().map_or(0, |&s| s as u32);
+}
+
+/// Chains the slots in the given order, open or closed.
+fn chain(a: &mut Arena, slots: &[usize], closed: bool) {
+    let ends = if closed { (slots[slots.len() - 1], slots[0]) } else { (0, 0) };
+    for (k, &s) in slots.iter().enumerate() {
+        a.prev[s - 1] = if k == 0 { ends.0 } else { slots[k - 1] } as u16;
+        a.next[s - 1] = slots.get(k + 1).copied().unwrap_or(ends.1) as u16;
+    }
+}
+
+/// A slot of the stack, or 0 if there is none.
+fn some_slot(r: &mut Random, a: &Arena) -> usize {
+    if a.stack() == 0 || a.stack() > a.capacity() { 0 } else { 1 + r.below(a.stack()) }
+}
+
+/// A slot of the stack that is free or not, as asked, or 0 if there is none to be found.
+fn some_slot_of(r: &mut Random, a: &Arena, free: bool) -> usize {
+    let first = some_slot(r, a);
+    let slots = (first..=a.stack()).chain(1..first);
+    slots.filter(|&s| s != 0).find(|&s| a.is_link(s) != free).unwrap_or(0)
+}
+
+/// A slot number to point at: in the stack, just past it, 0 or anything.
+fn some_target(r: &mut Random, a: &Arena) -> u16 {
+    match r.below(8) {
+        0 => 0,
+        1 => (a.stack() + 1) as u16,
+        2 => r.word() as u16,
+        3 => u16::MAX,
+        _ => some_slot(r, a) as u16,
+    }
+}
+
+/// Damages one thing. What comes of it may still pass, as where a word is written over by itself.
+pub fn damage(r: &mut Random, a: &mut Arena) {
+    match r.below(16) {
+        0..=3 => damage_link(r, a),
+        4..=6 => damage_freelist(r, a),
+        7..=9 => damage_header(r, a),
+        10..=12 => damage_neighbours(r, a),
+        13 | 14 => damage_generation(r, a),
+        _ => damage_shape(r, a),
+    }
+}
+
+/// Writes over prev or next of a link.
+fn damage_link(r: &mut Random, a: &mut Arena) {
+    let s = some_slot_of(r, a, false);
+    let target = some_target(r, a);
+    if s != 0 {
+        if r.once_in(2) {
+            a.prev[s - 1] = target;
+        } else {
+            a.next[s - 1] = target;
+        }
+    }
+}
+
+/// Sends the freelist round, cuts it, or points a free slot somewhere.
+fn damage_freelist(r: &mut Random, a: &mut Arena) {
+    let s = some_slot_of(r, a, true);
+    if s == 0 {
+        return;
+    }
+    a.next[s - 1] = match r.below(6) {
+        0 | 1 => a.root() as u16,
+        2 => s as u16,
+        3 => some_slot_of(r, a, true) as u16,
+        4 => some_slot_of(r, a, false) as u16,
+        _ => some_target(r, a),
+    };
+}
+
+/// Writes over a word of the header.
+fn damage_header(r: &mut Random, a: &mut Arena) {
+    let (stack, capacity) = (a.header[STACK], a.capacity() as u32);
+    match r.below(10) {
+        0 | 1 => a.header[LINKS] = a.header[LINKS].wrapping_add(r.pick(&[1, u32::MAX])),
+        2 => a.header[LINKS] = r.pick(&[0, capacity, capacity + 1, u32::MAX]),
+        3 => a.header[ROOT] = 0,
+        4 => a.header[ROOT] = some_target(r, a).into(),
+        5 => a.header[ROOT] = r.pick(&[65_536, 65_536 + stack, u32::MAX]),
+        6 => a.header[STACK] = stack.wrapping_sub(1).min(capacity + 1),
+        7 => a.header[STACK] = r.pick(&[stack + 1, capacity, capacity + 1, u32::MAX]),
+        _ => a.header[GENERATION] = r.pick(&[0, 1, 2, u32::MAX]),
+    }
+}
+
+/// Makes two links disagree: exchanges their next, one by one or with prev, or copies one to the other.
+fn damage_neighbours(r: &mut Random, a: &mut Arena) {
+    let (s, t) = (some_slot_of(r, a, false), some_slot_of(r, a, false));
+    if s == 0 {
+        return;
+    }
+    match r.below(4) {
+        0 => a.next.swap(s - 1, t - 1),
+        1 => a.prev.swap(s - 1, t - 1),
+        2 => a.next[s - 1] = a.next[t - 1],
+        _ => std::mem::swap(&mut a.prev[s - 1], &mut a.next[s - 1]),
+    }
+}
+
+/// Frees a link without a word to the freelist, or allocates a free slot, with the count kept right or not.
+fn damage_generation(r: &mut Random, a: &mut Arena) {
+    let s = some_slot(r, a);
+    if s == 0 {
+        return;
+    }
+    let was_link = a.is_link(s);
+    a.generation[s - 1] = if was_link { 0 } else { r.pick(&[1, 2, u32::MAX]) };
+    if r.once_in(2) {
+        let links = a.header[LINKS];
+        a.header[LINKS] = if was_link { links.saturating_sub(1) } else { links.saturating_add(1) };
+    }
+}
+
+/// Makes a column longer or shorter, or the header of another length.
+fn damage_shape(r: &mut Random, a: &mut Arena) {
+    match r.below(9) {
+        0 => a.prev.push(0),
+        1 => a.next.push(0),
+        2 => a.generation.push(0),
+        3 => a.payload.push(0),
+        4 => a.prev.truncate(a.prev.len().saturating_sub(1)),
+        5 => a.next.truncate(a.next.len().saturating_sub(1)),
+        6 => a.generation.truncate(a.generation.len().saturating_sub(1)),
+        7 => a.payload.truncate(a.payload.len().saturating_sub(1)),
+        _ => {
+            let length = r.below(7);
+            a.header.resize(length, 2);
+        }
+    }
+}
+
+/// A whole arena with one to three things damaged.
+pub fn damaged(r: &mut Random, most: usize) -> Arena {
+    let mut a = any_whole(r, most);
+    for _ in 0..1 + r.below(3) {
+        if a.header.len() == 4 && a.prev.len().min(a.next.len()).min(a.generation.len()) >= a.stack() {
+            damage(r, &mut a);
+        }
+    }
+    a
+}

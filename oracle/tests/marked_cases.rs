@@ -1,0 +1,171 @@
+//! K1 to K12, by the model, the crate's text and the exports.
+
+use oracle::compare::{Counts, compare, model_outcome};
+use oracle::{Arena, Call, Ptr, Reply, Walk};
+
+/// An arena whose links all have generation 5, the current one: each slot's (prev, next), or (0, pointer) if it is free.
+fn arena(slots: &[(u16, u16)], free: &[usize], root: u32) -> Arena {
+    let n = slots.len();
+    let mut a = Arena::empty(n);
+    for (place, &(prev, next)) in slots.iter().enumerate() {
+        let is_free = free.contains(&(place + 1));
+        a.prev[place] = prev;
+        a.next[place] = next;
+        a.generation[place] = if is_free { 0 } else { 5 };
+        a.payload[place] = if is_free { 0 } else { 70 + place as u32 };
+    }
+    a.header = vec![n as u32, (n - free.len()) as u32, root, 5];
+    a
+}
+
+/// The pointer to a slot at generation 5.
+fn p(slot: u16) -> Ptr {
+    Ptr { slot, generation: 5 }
+}
+
+/// Makes the calls one after the other, each all three ways, and answers the replies, the last call's lent slices and the
+/// arena left.
+fn play(mut a: Arena, calls: Vec<Call>) -> (Vec<Reply>, Call, Arena) {
+    let mut counts = Counts::default();
+    let mut replies = Vec::new();
+    let mut last = Call::Check;
+    for call in calls {
+        compare(&a, &call, &mut counts).unwrap();
+        let outcome = model_outcome(&a, &call);
+        replies.push(outcome.reply);
+        last = outcome.call;
+        a = outcome.arena;
+    }
+    (replies, last, a)
+}
+
+/// The numbers of the replies.
+fn numbers(replies: &[Reply]) -> Vec<u32> {
+    replies.iter().map(|reply| reply.number).collect()
+}
+
+/// The chain 1 -> 2 -> 3.
+fn three() -> Arena {
+    arena(&[(0, 2), (1, 3), (2, 0)], &[], 0)
+}
+
+#[test]
+fn k1_capacity_0_is_accepted_and_keeps_its_generation() {
+    let empty = arena(&[], &[], 0);
+    let (replies, _, left) = play(empty, vec![Call::Check, Call::CompressCanonical(0, vec![])]);
+    assert_eq!(numbers(&replies), [0, 0]);
+    assert_eq!(left.header, [0, 0, 0, 5]);
+}
+
+#[test]
+fn k2_a_lone_link_connected_to_itself_is_closed() {
+    let (replies, _, left) = play(arena(&[(0, 0)], &[], 0), vec![Call::Connect(p(1), p(1))]);
+    assert_eq!(numbers(&replies), [0]);
+    assert_eq!((left.prev[0], left.next[0]), (1, 1));
+}
+
+#[test]
+fn k3_the_end_of_a_chain_of_two_has_a_prev() {
+    let before = arena(&[(0, 2), (1, 0)], &[], 0);
+    let (replies, _, left) = play(before.clone(), vec![Call::Connect(p(2), p(2))]);
+    assert_eq!(numbers(&replies), [13]);
+    assert_eq!(left, before);
+}
+
+#[test]
+fn k4_exchange_cuts_a_link_out_and_closes_it() {
+    let (replies, _, left) = play(three(), vec![Call::ExchangeNext(p(1), p(2))]);
+    assert_eq!(numbers(&replies), [0]);
+    assert_eq!((left.prev, left.next), (vec![0, 2, 1], vec![3, 2, 0]));
+}
+
+#[test]
+fn k5_exchange_with_itself_changes_nothing() {
+    let (replies, _, left) = play(three(), vec![Call::ExchangeNext(p(1), p(1))]);
+    assert_eq!(numbers(&replies), [0]);
+    assert_eq!(left, three());
+}
+
+#[test]
+fn k6_removing_the_last_slot_pops_it() {
+    let (replies, _, left) = play(three(), vec![Call::Remove(p(3))]);
+    assert_eq!(replies, [Reply::new(0, &[2, 0, 72])]);
+    assert_eq!(left.header, [2, 2, 0, 6]);
+    assert_eq!((left.prev[2], left.next[2], left.generation[2], left.payload[2]), (0, 0, 0, 0));
+}
+
+#[test]
+fn k7_other_removals_make_a_freelist() {
+    let (replies, _, left) = play(three(), vec![Call::Remove(p(1)), Call::Remove(p(2))]);
+    assert_eq!(numbers(&replies), [0, 0]);
+    assert_eq!(left.header, [3, 1, 2, 7]);
+    assert_eq!(left.next, [1, 1, 0]);
+}
+
+#[test]
+fn k8_a_closed_pair_less_one_is_closed_alone() {
+    let (replies, _, left) = play(arena(&[(2, 2), (1, 1)], &[], 0), vec![Call::Remove(p(1))]);
+    assert_eq!(numbers(&replies), [0]);
+    assert_eq!((left.prev[1], left.next[1]), (2, 2));
+}
+
+#[test]
+fn k9_a_drain_from_the_middle() {
+    let (replies, lent, left) = play(three(), vec![Call::Drain(p(2), vec![9; 16])]);
+    assert_eq!(replies, [Reply::new(0, &[3, 0])]);
+    let report = vec![2, 5, 1, 3, 71, 3, 5, 1, 0, 72, 1, 5, 0, 0, 70, 9];
+    assert_eq!(lent, Call::Drain(p(2), report));
+    assert_eq!(left.header, [2, 0, 1, 8]);
+    assert_eq!(left.next, [2, 2, 0]);
+}
+
+#[test]
+fn k10_a_walk_on_a_closed_chain_ends_before_its_start_returns() {
+    let closed = arena(&[(2, 2), (1, 1)], &[], 0);
+    let state = |position, left| Walk { start: 2, position, direction: 0, left };
+    let calls = vec![
+        Call::WalkStart(p(2)),
+        Call::WalkStep(state(2, 2)),
+        Call::WalkStep(state(1, 1)),
+        Call::WalkStep(state(0, 0)),
+    ];
+    let (replies, _, _) = play(closed, calls);
+    let words = [[2, 2, 0, 2, 0, 0], [2, 5, 2, 1, 0, 1], [1, 5, 2, 0, 0, 0], [0, 0, 2, 0, 0, 0]];
+    assert_eq!(replies, words.map(|words| Reply::new(0, &words)));
+}
+
+#[test]
+fn k11_the_canonical_order() {
+    let before = arena(&[(0, 5), (0, 0), (0, 0), (0, 0), (1, 0)], &[], 0);
+    let (replies, lent, left) = play(before, vec![Call::CompressCanonical(0, vec![0; 5])]);
+    assert_eq!(numbers(&replies), [0]);
+    assert_eq!(lent, Call::CompressCanonical(0, vec![1, 5, 3, 4, 2]));
+    assert_eq!((left.prev, left.next), (vec![0, 1, 0, 0, 0], vec![2, 0, 0, 0, 0]));
+    assert_eq!(left.payload, [70, 74, 72, 73, 71]);
+}
+
+#[test]
+fn k12_two_free_slots_that_point_at_each_other() {
+    let (replies, _, _) = play(arena(&[(0, 2), (0, 1)], &[1, 2], 1), vec![Call::Check]);
+    assert_eq!(numbers(&replies), [9]);
+}
+
+#[test]
+fn a_closed_chain_need_not_begin_at_its_lowest_old_slot() {
+    let before = arena(&[(0, 4), (3, 3), (2, 2), (1, 0)], &[], 0);
+    let (_, lent, _) = play(before, vec![Call::CompressCanonical(1, vec![0; 4])]);
+    assert_eq!(lent, Call::CompressCanonical(1, vec![1, 4, 3, 2]));
+}
+
+#[test]
+fn a_compression_that_overflows_says_so_and_a_reset_never_does() {
+    let mut before = three();
+    before.header[3] = u32::MAX;
+    let calls = [0, 1].map(|reset| Call::CompressCanonical(reset, vec![0; 3]));
+    for (call, number) in calls.into_iter().zip([100, 0]) {
+        let (replies, _, left) = play(before.clone(), vec![call]);
+        assert_eq!(numbers(&replies), [number]);
+        assert_eq!(left.header, [3, 3, 0, 2]);
+        assert_eq!(left.generation, [2, 2, 2]);
+    }
+}
