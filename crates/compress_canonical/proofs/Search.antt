@@ -5,42 +5,19 @@ use mathlib.Core.Logic.{_≢_}
 use mathlib.Core.Bool.{Bool, true, false}
 use mathlib.Core.List.{List}
 use native.Mathlib.Omega.{arith}
-use native.Mathlib.Decide.{decLe}
 use native.Mathlib.Numerals.{add-one, sub-one}
 use lib.ListN.{length, getD}
-use Rattle.definitions.specs.Columns.{at, firstOr, slotsFrom, keep}
+use Rattle.definitions.specs.Columns.{at}
 use Rattle.definitions.specs.Arena.{Arena, stackLength, isLink}
 use Rattle.definitions.specs.Compress.{lowestFrom, startOf}
 use Rattle.definitions.proofs.Tests.{by-test}
 use Rattle.definitions.proofs.Columns.{at-suc}
-use Rattle.definitions.proofs.Count.{keep-yes, keep-no}
 use Rattle.chains.proofs.Links.{Link, link-some, link-within}
 use Rattle.chains.proofs.Find.{start-stop, start-round, start-on}
+use Rattle.demand3.proofs.Search.{lowest-stops, lowest-passes, lowest-ends}
 use Rattle.compress_canonical.specs.Held.{Occupied, Rooted}
 
--- ---- the lowest link at or above slot i
-
-module _ (b : Arena) (i : ℕ) where
-  pub lowest-here : Link b i → lowestFrom b i ≡ i
-  unfolding lowestFrom slotsFrom firstOr
-  lowest-here h =
-      let one-more : suc (stackLength b) - i ≡ suc (stackLength b - i) = omega (arith, link-within b i h) in
-      rw (one-more, keep-yes (isLink b) i (slotsFrom (suc i) (stackLength b - i)) h) refl
-
-  pub lowest-above : stackLength b < i → lowestFrom b i ≡ 0
-  unfolding lowestFrom slotsFrom keep firstOr
-  lowest-above h = let none : suc (stackLength b) - i ≡ 0 = omega arith in rw none refl
-
-pub lowest-later : (b : Arena) (i : ℕ) → isLink b i ≡ false → lowestFrom b i ≡ lowestFrom b (suc i)
-unfolding lowestFrom slotsFrom
-lowest-later b i h = go (decLe i (stackLength b))
-  where
-    go : Dec (i ≤ stackLength b) → lowestFrom b i ≡ lowestFrom b (suc i)
-    go (yes l) =
-        let one-more : suc (stackLength b) - i ≡ suc (stackLength b - i) = omega arith in
-        let rest : suc (stackLength b) - suc i ≡ stackLength b - i = omega arith in
-        rw (one-more, rest, keep-no (isLink b) i (slotsFrom (suc i) (stackLength b - i)) h) refl
-    go (no l) = lowest-above b i (omega arith) ∙ sym (lowest-above b (suc i) (omega arith))
+-- ---- the lowest link
 
 -- the search has passed slots from + 1 to s, and nobody was there
 pub record Searching (ws : List ℕ) (from s : ℕ) : Type 0 where
@@ -64,15 +41,15 @@ module _ (ws : List ℕ) (from s : ℕ) (searching : Searching ws from s) where
         begun = omega (arith, searching .begun);
         within = omega arith;
         same = λ b o.
-            let next : lowestFrom b (suc s) ≡ lowestFrom b (suc (suc s)) = lowest-later b (suc s) (is-free b o z) in
+            let next : lowestFrom b (suc s) ≡ lowestFrom b (suc (suc s)) = lowest-passes b (suc s) (is-free b o z) in
             rw (add-one (s + 1), add-one s) (sym next ∙ rw (add-one s) at (searching .same b o));
       }
 
   pub search-finds : getD ws s 0 ≢ 0 → (b : Arena) → Occupied b ws → s + 1 ≡ lowestFrom b (from + 1)
-  search-finds d b o = rw (add-one s) (sym (lowest-here b (suc s) (is-link b o d))) ∙ searching .same b o
+  search-finds d b o = rw (add-one s) (sym (lowest-stops b (suc s) (link-within b (suc s) (is-link b o d)) (is-link b o d))) ∙ searching .same b o
 
   pub search-ends : length ws ≤ s → (b : Arena) → Occupied b ws → 0 ≡ lowestFrom b (from + 1)
-  search-ends h b o = sym (lowest-above b (s + 1) (omega (arith, o .long))) ∙ searching .same b o
+  search-ends h b o = sym (lowest-ends b (s + 1) (omega (arith, o .long))) ∙ searching .same b o
 
 -- ---- the chain's start
 
