@@ -19,6 +19,7 @@ use Rattle.definitions.proofs.Columns.{length-put, at-put-same, at-put-other}
 use Rattle.chains.proofs.Links.{Link, DoublyLinked, link-some, link-within, link-nonzero}
 use Rattle.demand3.proofs.Exchange.{exchanged-i, exchanged-t, exchanged-other, exchanged-within, length-exchange, exchange-reads, exchange-links-reads}
 use Rattle.demand3.proofs.Carried.{Room}
+use Rattle.compress_canonical.specs.Lent.{Lent}
 use Rattle.compress_canonical.specs.Exchange.{Inside, heldOnly, InReach, renamedWords, Exchanged}
 use Rattle.compress_canonical.specs.Held.{Held}
 use Rattle.compress_canonical.proofs.Traded.{held-none, held-some}
@@ -29,6 +30,10 @@ pub record Exchangeable (b : Arena) (from : List ℕ) : Type 0 where
   pub size : length from ≡ stackLength b
   pub linked : DoublyLinked b
   pub somebody : (s : ℕ) → Link b s → at from s ≢ 0
+
+length-renamed : (xs back ws : List ℕ) (i t : ℕ) → length (renamedWords xs back ws i t) ≡ length xs
+unfolding renamedWords
+length-renamed xs back ws i t = length-exchange i t _ ∙ (length-put (put xs (at back t) i) _ t ∙ length-put xs (at back t) i)
 
 -- one column of neighbours X and the other, Y, each naming back what the other names; t is a link, and who is in slot i is nobody or a link
 module _ (b : Arena) (X Y : List ℕ) (i t who : ℕ) (i1 : 1 ≤ i) (t1 : 1 ≤ t) (target : Link b t) (fits : stackLength b ≤ length X)
@@ -76,8 +81,17 @@ module _ (b : Arena) (X Y : List ℕ) (i t who : ℕ) (i1 : 1 ≤ i) (t1 : 1 ≤
       held f (yes e) (no d) = rw (held-some who (at Y i) (somebody f)) (at-put-other first (at Y i) s t d ∙ at-t e)
       held f (no e) (no d) = rw (held-some who (at Y i) (somebody f)) (at-put-other first (at Y i) s t d ∙ elsewhere e (λ q. d (named i i1 q)))
 
-module _ (b : Arena) (from ps ns vs ws : List ℕ) (sound : Exchangeable b from) (columns : Held b from ps ns vs ws)
+module _ (b : Arena) (from : List ℕ) (c : Lent) (sound : Exchangeable b from) (columns : Held b from c)
     (i t : ℕ) (i1 : 1 ≤ i) (il : i ≤ stackLength b) (target : Link b t) where
+  abbrev ps : List ℕ
+  ps = c .prev
+
+  abbrev ns : List ℕ
+  ns = c .next
+
+  abbrev ws : List ℕ
+  ws = c .whereFrom
+
   abbrev n : ℕ
   n = stackLength b
 
@@ -120,12 +134,12 @@ module _ (b : Arena) (from ps ns vs ws : List ℕ) (sound : Exchangeable b from)
   inside : (X : List ℕ) → length X ≡ n → Inside X i t
   inside X e = record { i-some = i1; t-some = t1; i-within = omega arith; t-within = omega (arith, tl) }
 
-  pub in-reach : InReach ps ns vs ws i t
+  pub in-reach : InReach c i t
   in-reach =
       record {
         in-prev = inside ps (columns .prev-long);
         in-next = inside ns (columns .next-long);
-        in-payload = inside vs (columns .payload-long);
+        in-payload = inside (c .payload) (columns .payload-long);
         in-from = inside ws (columns .from-long);
         prev0 = rw (columns .next-long) (names-within ps (λ s h d. back-prev s h d .0) t target);
         next0 = rw (columns .prev-long) (names-within ns (λ s h d. back-next s h d .0) t target);
@@ -145,6 +159,9 @@ module _ (b : Arena) (from ps ns vs ws : List ℕ) (sound : Exchangeable b from)
       go : Dec (s ≤ n) → isLink (exchangeSlots i t b) s ≡ isLink b (exchanged i t s)
       go (yes l) = rw (reads, le-leb s n l, le-leb (σ s) n (exchanged-within i t s n il tl l)) refl
       go (no l) = let e : σ s ≡ s = exchanged-other i t s (λ z. omega arith) (λ z. omega (arith, tl)) in rw (e, lt-leb s n (omega arith)) refl
+
+  pub comes-to-i : Link (exchangeSlots i t b) i
+  comes-to-i = link-then i ∙ (ap (isLink b) (exchanged-i i t i refl) ∙ target)
 
   was-link : (s : ℕ) → Link (exchangeSlots i t b) s → Link b (exchanged i t s)
   was-link s h = sym (link-then s) ∙ h
@@ -174,18 +191,17 @@ module _ (b : Arena) (from ps ns vs ws : List ℕ) (sound : Exchangeable b from)
       exchange-reads i t X i1 t1 (omega arith) (omega (arith, tl)) s ∙
       (same (σ s) (was-link s h) ∙ sym (exchange-reads i t old i1 t1 (omega arith) (omega (arith, tl)) s))
 
-  pub exchange-holds : (ps′ ns′ vs′ ws′ : List ℕ) → Exchanged ps ns vs ws ps′ ns′ vs′ ws′ i t → length ps′ ≡ length ps → length ns′ ≡ length ns →
-      Held (exchangeSlots i t b) (exchangeWords i t from) ps′ ns′ vs′ ws′
+  pub exchange-holds : (left : Lent) → Exchanged c left i t → Held (exchangeSlots i t b) (exchangeWords i t from) left
   unfolding exchangeSlots
-  exchange-holds ps′ ns′ vs′ ws′ x lp ln =
+  exchange-holds left x =
       record {
-        prev-long = lp ∙ columns .prev-long;
-        next-long = ln ∙ columns .next-long;
-        payload-long = ap length (x .payload) ∙ (length-exchange i t vs ∙ columns .payload-long);
+        prev-long = ap length (x .prev) ∙ (length-renamed ps ns ws i t ∙ columns .prev-long);
+        next-long = ap length (x .next) ∙ (length-renamed ns ps ws i t ∙ columns .next-long);
+        payload-long = ap length (x .payload) ∙ (length-exchange i t (c .payload) ∙ columns .payload-long);
         from-long = ap length (x .from) ∙ (length-exchange i t ws ∙ columns .from-long);
-        prev = names-then ps ns (b .prev) ps′ (columns .prev-long) (sound .room .prev) (columns .prev) back-prev back-next (x .prev);
-        next = names-then ns ps (b .next) ns′ (columns .next-long) (sound .room .next) (columns .next) back-next back-prev (x .next);
-        payload = rw (x .payload) (words-then vs (b .payload) (columns .payload-long) (sound .room .payload) (columns .payload));
+        prev = names-then ps ns (b .prev) (left .prev) (columns .prev-long) (sound .room .prev) (columns .prev) back-prev back-next (x .prev);
+        next = names-then ns ps (b .next) (left .next) (columns .next-long) (sound .room .next) (columns .next) back-next back-prev (x .next);
+        payload = rw (x .payload) (words-then (c .payload) (b .payload) (columns .payload-long) (sound .room .payload) (columns .payload));
         who = rw (x .from) (words-then ws from (columns .from-long) (omega (arith, sound .size)) (columns .who));
         nobody = λ s h.
             rw (x .from)

@@ -2,3 +2,4 @@ pub mod Traded
 pub mod InPlace
 pub mod Search
 pub mod Marks
+pub mod LinkInPlace

@@ -8,6 +8,7 @@ use lib.Dec.{eqb}
 use Rattle.definitions.specs.Columns.{at, put}
 use Rattle.definitions.specs.Compress.{exchangeWords}
 use Rattle.compress_canonical.specs.declared.Neighbours.{Neighbours}
+use Rattle.compress_canonical.specs.Lent.{Lent}
 
 -- slots i and t stand in the column
 pub record Inside (xs : List ℕ) (i t : ℕ) : Type 0 where
@@ -27,24 +28,24 @@ pub record Around (ps ns ws : List ℕ) (i t : ℕ) (r : Neighbours) : Type 0 wh
   pub prev1 : r .prev1 .0 ≡ heldOnly (at ws i) (at ps i)
   pub next1 : r .next1 .0 ≡ heldOnly (at ws i) (at ns i)
 
--- slots i and t stand in the four columns, and so do the neighbours that are renamed
-pub record InReach (ps ns vs ws : List ℕ) (i t : ℕ) : Type 0 where
-  pub in-prev : Inside ps i t
-  pub in-next : Inside ns i t
-  pub in-payload : Inside vs i t
-  pub in-from : Inside ws i t
-  pub prev0 : at ps t ≤ length ns
-  pub next0 : at ns t ≤ length ps
-  pub prev1 : heldOnly (at ws i) (at ps i) ≤ length ns
-  pub next1 : heldOnly (at ws i) (at ns i) ≤ length ps
+-- slots i and t stand in the columns, and so do the neighbours that are renamed
+pub record InReach (c : Lent) (i t : ℕ) : Type 0 where
+  pub in-prev : Inside (c .prev) i t
+  pub in-next : Inside (c .next) i t
+  pub in-payload : Inside (c .payload) i t
+  pub in-from : Inside (c .whereFrom) i t
+  pub prev0 : at (c .prev) t ≤ length (c .next)
+  pub next0 : at (c .next) t ≤ length (c .prev)
+  pub prev1 : heldOnly (at (c .whereFrom) i) (at (c .prev) i) ≤ length (c .next)
+  pub next1 : heldOnly (at (c .whereFrom) i) (at (c .next) i) ≤ length (c .prev)
 
 -- a column of neighbours in which slots i and t are renamed where their neighbours in the column back name them, and then exchanged
 unfoldable pub renamedWords : List ℕ → List ℕ → List ℕ → ℕ → ℕ → List ℕ
 renamedWords xs back ws i t = exchangeWords i t (put (put xs (at back t) i) (heldOnly (at ws i) (at back i)) t)
 
 -- the words that the exchange leaves
-pub record Exchanged (ps ns vs ws ps′ ns′ vs′ ws′ : List ℕ) (i t : ℕ) : Type 0 where
-  pub prev : ps′ ≡ renamedWords ps ns ws i t
-  pub next : ns′ ≡ renamedWords ns ps ws i t
-  pub payload : vs′ ≡ exchangeWords i t vs
-  pub from : ws′ ≡ exchangeWords i t ws
+pub record Exchanged (c left : Lent) (i t : ℕ) : Type 0 where
+  pub prev : left .prev ≡ renamedWords (c .prev) (c .next) (c .whereFrom) i t
+  pub next : left .next ≡ renamedWords (c .next) (c .prev) (c .whereFrom) i t
+  pub payload : left .payload ≡ exchangeWords i t (c .payload)
+  pub from : left .whereFrom ≡ exchangeWords i t (c .whereFrom)

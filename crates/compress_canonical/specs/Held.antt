@@ -8,19 +8,20 @@ use lib.ListN.{length}
 use Rattle.definitions.specs.Columns.{at}
 use Rattle.definitions.specs.Arena.{Arena, stackLength, isLink}
 use Rattle.chains.proofs.Links.{DoublyLinked}
+use Rattle.compress_canonical.specs.Lent.{Lent}
 
--- the columns hold the links that are in the slots b now: their words are those of b, and ws says who is in a slot, as from does, 0 where nobody is.
--- Words of free slots are not the code's business, nor are words past the stack: the code is lent the columns up to the stack length
-pub record Held (b : Arena) (from ps ns vs ws : List ℕ) : Type 0 where
-  pub prev-long : length ps ≡ stackLength b
-  pub next-long : length ns ≡ stackLength b
-  pub payload-long : length vs ≡ stackLength b
-  pub from-long : length ws ≡ stackLength b
-  pub prev : (s : ℕ) → isLink b s ≡ true → at ps s ≡ at (b .prev) s
-  pub next : (s : ℕ) → isLink b s ≡ true → at ns s ≡ at (b .next) s
-  pub payload : (s : ℕ) → isLink b s ≡ true → at vs s ≡ at (b .payload) s
-  pub who : (s : ℕ) → isLink b s ≡ true → at ws s ≡ at from s
-  pub nobody : (s : ℕ) → isLink b s ≡ false → at ws s ≡ 0
+-- the columns hold the links that are in the slots b now: their words are those of b, and the where-from column says who is in a slot, as from does,
+-- and 0 where nobody is. Words of free slots are not the code's business
+pub record Held (b : Arena) (from : List ℕ) (c : Lent) : Type 0 where
+  pub prev-long : length (c .prev) ≡ stackLength b
+  pub next-long : length (c .next) ≡ stackLength b
+  pub payload-long : length (c .payload) ≡ stackLength b
+  pub from-long : length (c .whereFrom) ≡ stackLength b
+  pub prev : (s : ℕ) → isLink b s ≡ true → at (c .prev) s ≡ at (b .prev) s
+  pub next : (s : ℕ) → isLink b s ≡ true → at (c .next) s ≡ at (b .next) s
+  pub payload : (s : ℕ) → isLink b s ≡ true → at (c .payload) s ≡ at (b .payload) s
+  pub who : (s : ℕ) → isLink b s ≡ true → at (c .whereFrom) s ≡ at from s
+  pub nobody : (s : ℕ) → isLink b s ≡ false → at (c .whereFrom) s ≡ 0
 
 -- up to slot k each link's own slot stands in the column, and 0 for a free slot
 pub record Marked (gs : List ℕ) (k : ℕ) (ws : List ℕ) : Type 0 where

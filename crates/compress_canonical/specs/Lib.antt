@@ -1,2 +1,4 @@
+pub mod Lent
 pub mod Exchange
 pub mod Held
+pub mod Steps

@@ -7,9 +7,11 @@ ghost use lib.Dec.{eqb};
 ghost use lib.ListN.{length};
 ghost use Rattle.definitions.specs.Columns.{at, put};
 ghost use Rattle.definitions.specs.Arena.{Arena, capacityLimit, stackLength};
-ghost use Rattle.definitions.specs.Compress.{exchangeWords, lowestFrom, startOf};
+ghost use Rattle.definitions.specs.Compress.{Laying, exchangeWords, lowestFrom, startOf};
+ghost use Rattle.compress_canonical.specs.Lent.{lent};
 ghost use Rattle.compress_canonical.specs.Exchange.{Inside, Around, InReach, Exchanged};
 ghost use Rattle.compress_canonical.specs.Held.{Occupied, Rooted, Marked};
+ghost use Rattle.compress_canonical.specs.Steps.{InChain, LinkLaid};
 use base_removal::put_at;
 use chain_traits::slot_at;
 use ptr::Slot;
@@ -88,15 +90,36 @@ fn exchange(
     i: Slot,
     t: Slot,
 )
-    requires { ⌜ InReach (now prev) (now next) (now payload) (now «where_from») (i .0) (t .0) ⌝ }
-    ensures { λ _. ⌜ Exchanged (now (prev .entry)) (now (next .entry)) (now (payload .entry)) (now («where_from» .entry))
-        (now (prev .exit)) (now (next .exit)) (now (payload .exit)) (now («where_from» .exit)) (i .0) (t .0) ⌝ }
+    requires { ⌜ InReach (lent (now prev) (now next) (now payload) (now «where_from»)) (i .0) (t .0) ⌝ }
+    ensures { λ _. ⌜ Exchanged (lent (now (prev .entry)) (now (next .entry)) (now (payload .entry)) (now («where_from» .entry)))
+        (lent (now (prev .exit)) (now (next .exit)) (now (payload .exit)) (now («where_from» .exit))) (i .0) (t .0) ⌝ }
 {
     let around = read_neighbours(prev, next, where_from, i, t);
     settle(prev, around.next0, around.next1, i, t);
     settle(next, around.prev0, around.prev1, i, t);
     trade_slots(where_from, i, t);
     trade_words(payload, i, t);
+}
+
+// Puts the link in slot t into the slot after those that are laid out, by exchanging slots with what is there. Answers the slot of its next.
+fn lay_link(
+    prev: &mut [u16],
+    next: &mut [u16],
+    payload: &mut [u32],
+    where_from: &mut [u16],
+    laid: usize,
+    t: Slot,
+) -> Slot
+    requires { ⌜ ((a : Arena) × (l : Laying) × (first : ℕ) × InChain a l first (t .0) (lent (now prev) (now next) (now payload) (now «where_from»)) laid) ⌝ }
+    ensures { λ r. ⌜ ((a : Arena) (l : Laying) (first : ℕ) → InChain a l first (t .0) (lent (now (prev .entry)) (now (next .entry)) (now (payload .entry)) (now («where_from» .entry))) laid
+        → LinkLaid l (t .0) (lent (now (prev .exit)) (now (next .exit)) (now (payload .exit)) (now («where_from» .exit))) (r .0)) ⌝ }
+{
+    let i = Slot((laid + 1) as u16);
+    if i.0 == t.0 {
+        return Slot(next[laid]);
+    }
+    exchange(&mut *prev, &mut *next, &mut *payload, &mut *where_from, i, t);
+    Slot(next[laid])
 }
 
 // The lowest slot after the first `from` in which somebody is, none if there is none. Somebody is where the column has a word.

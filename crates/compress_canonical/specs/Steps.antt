@@ -1,0 +1,32 @@
+-- What the steps of canonical compression need and leave: one link put in its place, a chain laid out, all chains laid out. The arena a that is laid out and
+-- the definition's state l are not the code's: whatever they are, if the columns hold l's links before a step, they hold the next state's links after it.
+use Prim.Native.Nat.{ℕ, suc, _≤_, _<_}
+use mathlib.Core.Path.{_≡_}
+use mathlib.Core.List.{List}
+use Rattle.definitions.specs.Columns.{at, slotsFrom}
+use Rattle.definitions.specs.Arena.{Arena, capacityLimit, stackLength}
+use Rattle.definitions.specs.Compress.{Laying, putAtI, lowestFrom, layChain, laidOut}
+use Rattle.chains.proofs.Links.{DoublyLinked}
+use Rattle.demand3.proofs.Carried.{Room}
+use Rattle.demand3.proofs.Loops.{Between, Within}
+use Rattle.demand3.proofs.Search.{FreeBetween}
+use Rattle.compress_canonical.specs.Lent.{Lent}
+use Rattle.compress_canonical.specs.Held.{Held}
+
+-- what laying out needs of an arena that passed the check
+pub record Layable (a : Arena) : Type 0 where
+  pub linked : DoublyLinked a
+  pub room : Room a
+  pub small : stackLength a ≤ capacityLimit
+
+-- a is being laid out, and so many links are in place; the link in slot t is next, of a chain whose first link is in slot first or goes there
+pub record InChain (a : Arena) (l : Laying) (first t : ℕ) (c : Lent) (laid : ℕ) : Type 0 where
+  pub layable : Layable a
+  pub within : Within a l first t
+  pub i : l .i ≡ suc laid
+  pub held : Held (l .slots) (l .from) c
+
+-- the link in slot t is in place, and ahead is the slot of its next
+pub record LinkLaid (l : Laying) (t : ℕ) (c : Lent) (ahead : ℕ) : Type 0 where
+  pub held : Held (putAtI t l .slots) (putAtI t l .from) c
+  pub next : ahead ≡ at (putAtI t l .slots .next) (l .i)
