@@ -3,3 +3,4 @@ pub mod InPlace
 pub mod Search
 pub mod Marks
 pub mod LinkInPlace
+pub mod ChainInPlace

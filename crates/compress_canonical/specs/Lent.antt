@@ -1,6 +1,8 @@
 -- The columns that are written while an arena is laid out, lent up to the stack length: words past it are not the code's business.
 use Prim.Native.Nat.{ℕ}
+use mathlib.Core.Path.{_≡_}
 use mathlib.Core.List.{List}
+use lib.ListN.{length}
 
 pub record Lent : Type 0 where
   pub prev : List ℕ
@@ -10,3 +12,10 @@ pub record Lent : Type 0 where
 
 abbrev pub lent : List ℕ → List ℕ → List ℕ → List ℕ → Lent
 lent ps ns vs ws = record { prev = ps; next = ns; payload = vs; whereFrom = ws }
+
+-- columns of the same lengths
+pub record AsLong (c old : Lent) : Type 0 where
+  pub prev : length (c .prev) ≡ length (old .prev)
+  pub next : length (c .next) ≡ length (old .next)
+  pub payload : length (c .payload) ≡ length (old .payload)
+  pub whereFrom : length (c .whereFrom) ≡ length (old .whereFrom)

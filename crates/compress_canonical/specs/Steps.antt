@@ -30,3 +30,11 @@ pub record InChain (a : Arena) (l : Laying) (first t : ℕ) (c : Lent) (laid : �
 pub record LinkLaid (l : Laying) (t : ℕ) (c : Lent) (ahead : ℕ) : Type 0 where
   pub held : Held (putAtI t l .slots) (putAtI t l .from) c
   pub next : ahead ≡ at (putAtI t l .slots .next) (l .i)
+
+-- a chain is laid out, from the state l to the state after, and now so many links are in place. Slots that were free from i up to j are free still
+pub record ChainLaid (a : Arena) (l after : Laying) (laid : ℕ) (c : Lent) (now : ℕ) : Type 0 where
+  pub between : Between a after
+  pub i : after .i ≡ suc now
+  pub held : Held (after .slots) (after .from) c
+  pub more : laid < now
+  pub free : (j : ℕ) → FreeBetween (l .slots) (l .i) j → FreeBetween (after .slots) (after .i) j

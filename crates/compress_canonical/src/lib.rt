@@ -7,11 +7,11 @@ ghost use lib.Dec.{eqb};
 ghost use lib.ListN.{length};
 ghost use Rattle.definitions.specs.Columns.{at, put};
 ghost use Rattle.definitions.specs.Arena.{Arena, capacityLimit, stackLength};
-ghost use Rattle.definitions.specs.Compress.{Laying, exchangeWords, lowestFrom, startOf};
+ghost use Rattle.definitions.specs.Compress.{Laying, exchangeWords, lowestFrom, startOf, layChain};
 ghost use Rattle.compress_canonical.specs.Lent.{lent};
 ghost use Rattle.compress_canonical.specs.Exchange.{Inside, Around, InReach, Exchanged};
 ghost use Rattle.compress_canonical.specs.Held.{Occupied, Rooted, Marked};
-ghost use Rattle.compress_canonical.specs.Steps.{InChain, LinkLaid};
+ghost use Rattle.compress_canonical.specs.Steps.{InChain, LinkLaid, ChainLaid};
 use base_removal::put_at;
 use chain_traits::slot_at;
 use ptr::Slot;
@@ -120,6 +120,36 @@ fn lay_link(
     }
     exchange(&mut *prev, &mut *next, &mut *payload, &mut *where_from, i, t);
     Slot(next[laid])
+}
+
+// Lays out the chain that starts in slot start, link after link along next, after those that are laid out. Answers how many are laid out then.
+fn lay_chain(
+    prev: &mut [u16],
+    next: &mut [u16],
+    payload: &mut [u32],
+    where_from: &mut [u16],
+    laid: usize,
+    start: Slot,
+) -> usize
+    requires { ⌜ ((a : Arena) × (l : Laying) × InChain a l (l .i) (start .0) (lent (now prev) (now next) (now payload) (now «where_from»)) laid) ⌝ }
+    ensures { λ r. ⌜ ((a : Arena) (l : Laying) → InChain a l (l .i) (start .0) (lent (now (prev .entry)) (now (next .entry)) (now (payload .entry)) (now («where_from» .entry))) laid
+        → ChainLaid a l (layChain (stackLength (l .slots)) (l .i) (start .0) l) laid
+        (lent (now (prev .exit)) (now (next .exit)) (now (payload .exit)) (now («where_from» .exit))) r) ⌝ }
+{
+    let first = Slot((laid + 1) as u16);
+    let mut count = laid;
+    let mut t = start;
+    loop {
+        t = lay_link(&mut *prev, &mut *next, &mut *payload, &mut *where_from, count, t);
+        count += 1;
+        if t.0 == 0 {
+            return count;
+        }
+        // where the chain's first link was put, and not where it started
+        if t.0 == first.0 {
+            return count;
+        }
+    }
 }
 
 // The lowest slot after the first `from` in which somebody is, none if there is none. Somebody is where the column has a word.
