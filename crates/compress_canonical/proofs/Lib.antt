@@ -4,3 +4,4 @@ pub mod Search
 pub mod Marks
 pub mod LinkInPlace
 pub mod ChainInPlace
+pub mod ChainsInPlace

@@ -2,6 +2,7 @@
 -- the definition's state l are not the code's: whatever they are, if the columns hold l's links before a step, they hold the next state's links after it.
 use Prim.Native.Nat.{ℕ, suc, _≤_, _<_}
 use mathlib.Core.Path.{_≡_}
+use mathlib.Core.Logic.{_⊎_}
 use mathlib.Core.List.{List}
 use Rattle.definitions.specs.Columns.{at, slotsFrom}
 use Rattle.definitions.specs.Arena.{Arena, capacityLimit, stackLength}
@@ -38,3 +39,20 @@ pub record ChainLaid (a : Arena) (l after : Laying) (laid : ℕ) (c : Lent) (now
   pub held : Held (after .slots) (after .from) c
   pub more : laid < now
   pub free : (j : ℕ) → FreeBetween (l .slots) (l .i) j → FreeBetween (after .slots) (after .i) j
+
+-- a can be laid out, and the columns hold it as it is: every link is in its own slot
+pub record Ready (a : Arena) (c : Lent) : Type 0 where
+  pub layable : Layable a
+  pub held : Held a (slotsFrom 1 (stackLength a)) c
+
+-- all chains are laid out, in the state l, and no link waits
+pub record AllLaid (a : Arena) (l : Laying) (c : Lent) : Type 0 where
+  pub between : Between a l
+  pub none : lowestFrom (l .slots) (l .i) ≡ 0
+  pub held : Held (l .slots) (l .from) c
+
+-- r is the larger of two numbers
+pub record Larger (x y r : ℕ) : Type 0 where
+  pub left : x ≤ r
+  pub right : y ≤ r
+  pub one : (r ≡ x) ⊎ (r ≡ y)

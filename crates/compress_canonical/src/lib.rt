@@ -7,11 +7,11 @@ ghost use lib.Dec.{eqb};
 ghost use lib.ListN.{length};
 ghost use Rattle.definitions.specs.Columns.{at, put};
 ghost use Rattle.definitions.specs.Arena.{Arena, capacityLimit, stackLength};
-ghost use Rattle.definitions.specs.Compress.{Laying, exchangeWords, lowestFrom, startOf, layChain};
+ghost use Rattle.definitions.specs.Compress.{Laying, exchangeWords, lowestFrom, startOf, layChain, laidOut};
 ghost use Rattle.compress_canonical.specs.Lent.{lent};
 ghost use Rattle.compress_canonical.specs.Exchange.{Inside, Around, InReach, Exchanged};
 ghost use Rattle.compress_canonical.specs.Held.{Occupied, Rooted, Marked};
-ghost use Rattle.compress_canonical.specs.Steps.{InChain, LinkLaid, ChainLaid};
+ghost use Rattle.compress_canonical.specs.Steps.{InChain, LinkLaid, ChainLaid, Ready, AllLaid, Larger};
 use base_removal::put_at;
 use chain_traits::slot_at;
 use ptr::Slot;
@@ -118,7 +118,14 @@ fn lay_link(
     if i.0 == t.0 {
         return Slot(next[laid]);
     }
-    exchange(&mut *prev, &mut *next, &mut *payload, &mut *where_from, i, t);
+    exchange(
+        &mut *prev,
+        &mut *next,
+        &mut *payload,
+        &mut *where_from,
+        i,
+        t,
+    );
     Slot(next[laid])
 }
 
@@ -140,7 +147,14 @@ fn lay_chain(
     let mut count = laid;
     let mut t = start;
     loop {
-        t = lay_link(&mut *prev, &mut *next, &mut *payload, &mut *where_from, count, t);
+        t = lay_link(
+            &mut *prev,
+            &mut *next,
+            &mut *payload,
+            &mut *where_from,
+            count,
+            t,
+        );
         count += 1;
         if t.0 == 0 {
             return count;
@@ -186,6 +200,40 @@ fn start_of(prev: &[u16], o: Slot) -> Slot
         left -= 1;
     }
     o
+}
+
+// The larger of two numbers.
+fn larger(x: usize, y: usize) -> usize
+    ensures { λ r. ⌜ Larger x y r ⌝ }
+{
+    if x < y {
+        return y;
+    }
+    x
+}
+
+// Lays out chain after chain: the lowest link that is not in its place, its chain's start, and from there along next.
+fn lay_chains(prev: &mut [u16], next: &mut [u16], payload: &mut [u32], where_from: &mut [u16])
+    requires { ⌜ ((a : Arena) × Ready a (lent (now prev) (now next) (now payload) (now «where_from»))) ⌝ }
+    ensures { λ _. ⌜ ((a : Arena) → Ready a (lent (now (prev .entry)) (now (next .entry)) (now (payload .entry)) (now («where_from» .entry)))
+        → AllLaid a (laidOut a) (lent (now (prev .exit)) (now (next .exit)) (now (payload .exit)) (now («where_from» .exit)))) ⌝ }
+{
+    let mut laid: usize = 0;
+    let mut found = lowest_link(&*where_from, laid);
+    while found.0 != 0 {
+        let start = start_of(&*prev, found);
+        laid = lay_chain(
+            &mut *prev,
+            &mut *next,
+            &mut *payload,
+            &mut *where_from,
+            laid,
+            start,
+        );
+        // no link waits below the slot that was found, so that the search goes on there and all searches together are linear
+        let from = larger(laid, found.0 as usize - 1);
+        found = lowest_link(&*where_from, from);
+    }
 }
 
 // Who is at place s at the start: the link in its own slot, nobody where the slot is free.
