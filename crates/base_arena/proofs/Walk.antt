@@ -32,10 +32,13 @@ module _ (ns gs : List ℕ) (n : ℕ) where
       (cond (not (eqb (getD gs (s - 1) 0) 0)) 8
       (cond (eqb (getD ns (s - 1) 0) s) (cond (ltb (visited + 1) (length (freeSlots gs n))) 10 0) rest)))
 
+  one-left : (visited : ℕ) → visited < n + 2 → n + 2 - visited ≡ suc (n + 2 - (visited + 1))
+  one-left visited h = omega arith
+
   walk-visits : (visited s : ℕ) → visited < n + 2 → visit visited s (walkAfter (visited + 1) (getD ns (s - 1) 0)) ≡ walkAfter visited s
   unfolding walkAfter freelistWalk at
-  walk-visits visited zero h = let more : n + 2 - visited ≡ suc (n + 2 - (visited + 1)) = omega arith in rw more refl
-  walk-visits visited (suc i) h = let more : n + 2 - visited ≡ suc (n + 2 - (visited + 1)) = omega arith in rw (more, sub-one) refl
+  walk-visits visited zero h = rw (one-left visited h) refl
+  walk-visits visited (suc i) h = rw (one-left visited h, sub-one) refl
 
   -- what a visit answers is what the walk w answers
   pub visit-answers : (visited s r w : ℕ) → visited < n + 2 → walkAfter visited s ≡ w → r ≡ visit visited s (walkAfter (visited + 1) (getD ns (s - 1) 0)) → r ≡ w

@@ -38,12 +38,12 @@ pub fn shape(prev: &[u16], next: &[u16], generation: &[u32], payload: &[u32], he
     0
 }
 
-// How many of the first n slots are allocated.
-pub fn allocated_slots(generation: &[u32], n: usize) -> usize
-    requires { ⌜ n ≤ length (now generation) ⌝ }
+// How many of the first n slots are allocated. (The count is as wide as a generation, so that several slots are counted at a time.)
+pub fn allocated_slots(generation: &[u32], n: usize) -> u32
+    requires { ⌜ (n ≤ length (now generation)) × (n ≤ capacityLimit) ⌝ }
     ensures { λ r. ⌜ r ≡ length (linkSlots (now (generation .entry)) n) ⌝ }
 {
-    let mut allocated: usize = 0;
+    let mut allocated: u32 = 0;
     let mut i: usize = 0;
     while i < n {
         if generation[i] != 0 {
@@ -85,7 +85,7 @@ pub fn freelist(next: &[u16], generation: &[u32], n: usize, root: usize, free: u
 }
 
 // Refusals 4 to 10, or 0: of the first n slots, with the link count and the root that the header says.
-pub fn counts(next: &[u16], generation: &[u32], n: usize, links: usize, root: usize) -> u32
+pub fn counts(next: &[u16], generation: &[u32], n: usize, links: u32, root: usize) -> u32
     requires { ⌜ (n ≤ length (now next)) × (n ≤ length (now generation)) × (n ≤ capacityLimit) ⌝ }
     ensures { λ r. ⌜ r ≡ countsOf (now (next .entry)) (now (generation .entry)) n links root ⌝ }
 {
@@ -93,7 +93,7 @@ pub fn counts(next: &[u16], generation: &[u32], n: usize, links: usize, root: us
     if links != allocated {
         return 4;
     }
-    let free = n - allocated;
+    let free = n - allocated as usize;
     if root == 0 {
         if free == 0 {
             return 0;

@@ -10,7 +10,7 @@ use Rattle.definitions.specs.Reply.{reply}
 use Rattle.definitions.specs.Remove.{threaded, canonicalizeFreelist}
 use Rattle.base_freelist.specs.Popped.{popped}
 use Rattle.base_freelist.proofs.Settled.{settled-over}
-use Rattle.base_freelist.proofs.Rising.{highest-within}
+use Rattle.base_freelist.proofs.Rising.{ends-within}
 use Rattle.base_freelist.proofs.Threaded.{threaded-drop, in-free}
 
 module _ (a : Arena) (m root : ℕ) (ns : List ℕ) where
@@ -23,5 +23,5 @@ module _ (a : Arena) (m root : ℕ) (ns : List ℕ) where
   unfolding canonicalizeFreelist
   canonicalized e r t =
       let n = stackLength a in
-      let past = threaded-drop n (a .next) (freeSlots (a .generation) m) (λ s h. let below = in-free (a .generation) m s h in omega (arith, highest-within (a .generation) n m e)) in
+      let past = threaded-drop n (a .next) (freeSlots (a .generation) m) (λ s h. let below = in-free (a .generation) m s h in omega (arith, ends-within (a .generation) n m e)) in
       rw (t, settled-over n (take m (threaded (a .next) (freeSlots (a .generation) m))) (threaded (a .next) (freeSlots (a .generation) m)) (a .next) past, r, ← e) refl

@@ -5,13 +5,13 @@ use mathlib.Core.Bool.{Bool, true, false, cond, not, _&&_}
 use mathlib.Core.List.{List, [], _∷_, _++_, append-nil}
 use native.Mathlib.Omega.{arith}
 use native.Mathlib.Numerals.{one-add, sub-one}
-use native.Mathlib.Decide.{ℕ-discrete}
 use lib.Dec.{leb}
 use borrow.Author.Tests.{le-leb}
 use Rattle.definitions.specs.Columns.{at, lastOr, slotsFrom, keep}
 use Rattle.definitions.specs.Arena.{allocated, linkSlots}
 use Rattle.definitions.proofs.Slots.{slots-snoc, keep-append, allocated-yes, allocated-free}
 use Rattle.definitions.proofs.Count.{keep-agree, in-slots}
+use Rattle.definitions.proofs.Relisted.{highest-within}
 
 -- up to the shorter of two stack lengths a slot is allocated in both or in neither
 allocated-agree : (gs : List ℕ) (n m s : ℕ) → s ≤ n → s ≤ m → allocated gs n s ≡ allocated gs m s
@@ -53,14 +53,6 @@ pub highest-none : (gs : List ℕ) (m : ℕ) → m ≡ 0 → m ≡ lastOr 0 (lin
 unfolding linkSlots slotsFrom keep lastOr
 highest-none gs m z = rw z refl
 
-last-within : (gs : List ℕ) (n : ℕ) → lastOr 0 (linkSlots gs n) ≤ n
-last-within gs zero = omega (arith, highest-none gs 0 refl)
-last-within gs (suc k) =
-    go (ℕ-discrete (at gs (suc k)) 0) (last-within gs k)
-  where
-    go : Dec (at gs (suc k) ≡ 0) → lastOr 0 (linkSlots gs k) ≤ k → lastOr 0 (linkSlots gs (suc k)) ≤ suc k
-    go (yes z) h = rw (links-same gs k z) (omega arith)
-    go (no d) h = omega (arith, highest-here gs (suc k) (omega arith) d)
-
-pub highest-within : (gs : List ℕ) (n m : ℕ) → m ≡ lastOr 0 (linkSlots gs n) → m ≤ n
-highest-within gs n m e = omega (arith, last-within gs n)
+-- where a stack ends that has no free end slots
+pub ends-within : (gs : List ℕ) (n m : ℕ) → m ≡ lastOr 0 (linkSlots gs n) → m ≤ n
+ends-within gs n m e = omega (arith, highest-within gs n)

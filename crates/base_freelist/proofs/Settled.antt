@@ -8,10 +8,6 @@ use lib.ListN.{length, getD, set, take, drop, replicate, length-append, length-d
 use lib.Seq.{drop-cons, set-at, length-take-le}
 use Rattle.definitions.specs.Columns.{settled}
 
-pub length-settled : (ws old : List ℕ) (n : ℕ) → length ws ≤ n → n ≤ length old → length (settled n ws old) ≡ length old
-unfolding settled
-length-settled ws old n h l = simp (length-append, length-replicate, length-drop) (omega arith)
-
 -- nothing is cleared yet
 pub settled-none : (old : List ℕ) (m : ℕ) → m ≤ length old → settled m (take m old) old ≡ old
 unfolding settled

@@ -23,11 +23,6 @@ put-comm xs zero t v u d = refl
 put-comm xs (suc i) zero v u d = refl
 put-comm xs (suc i) (suc j) v u d = set-comm xs i j v u (λ e. d (ap suc e))
 
-pub length-threaded : (ns fs : List ℕ) → length (threaded ns fs) ≡ length ns
-unfolding threaded
-length-threaded ns [] = refl
-length-threaded ns (s ∷ fs) = length-threaded (put ns s (firstOr s fs)) fs ∙ length-put ns s (firstOr s fs)
-
 -- a slot that is not on the list may be written before or after
 pub threaded-put : (ns fs : List ℕ) (s v : ℕ) → (In s fs → ⊥) → threaded (put ns s v) fs ≡ put (threaded ns fs) s v
 unfolding threaded

@@ -105,13 +105,14 @@ pub fn check(
         return Checked::Refused(misshapen);
     }
     let n = header[0] as usize;
-    let miscounted = counts(next, generation, n, header[1] as usize, header[2] as usize);
+    let miscounted = counts(next, generation, n, header[1], header[2] as usize);
     if miscounted != 0 {
         return Checked::Refused(miscounted);
     }
     let broken = interlinks(prev, next, generation, n);
     if broken != 0 {
-        return Checked::Broken(Slot(broken as u16));
+        let slot = broken as u16;
+        return Checked::Broken(Slot(slot));
     }
     Checked::Passed
 }

@@ -7,11 +7,11 @@ use lib.Dec.{eqb}
 use native.Mathlib.Nat.{pos-of-ne-zero}
 use borrow.Author.Tests.{eqb-true, eqb-false, ltb-false, not-false}
 use Rattle.definitions.specs.Columns.{at}
-use Rattle.definitions.specs.Arena.{Arena, stackLength, isLink}
+use Rattle.definitions.specs.Arena.{Arena, stackLength}
 use Rattle.definitions.specs.Read.{Pointer, stale, neighbors}
 use Rattle.definitions.proofs.Tests.{neither-parts, tests}
-use Rattle.definitions.proofs.Slots.{allocated-yes}
 use Rattle.chain_traits.specs.Read.{staleIn}
+pub use Rattle.definitions.proofs.Pointers.{fresh-link}
 
 -- what `chain_traits::stale` answers of an arena's generation column and stack length is `stale` of the arena
 pub stale-of : (a : Arena) (p : Pointer) → staleIn (a .generation) (stackLength a) p ≡ stale a p
@@ -46,12 +46,6 @@ fresh gs n p e =
       live = eqb-false _ _ (free .1);
       same = eqb-true _ _ (not-false _ (other .1));
     }
-
--- a pointer that is not stale points to a link
-pub fresh-link : (a : Arena) (p : Pointer) → stale a p ≡ false → isLink a (p .slot) ≡ true
-fresh-link a p e =
-    let f = fresh (a .generation) (stackLength a) p (stale-of a p ∙ e) in
-    allocated-yes (a .generation) (stackLength a) (p .slot) (f .within) (f .live)
 
 -- of two pointers that are not stale, the one's next decides
 pub fresh-neighbors : (a : Arena) (p q : Pointer) → stale a p ≡ false → stale a q ≡ false → eqb (at (a .next) (p .slot)) (q .slot) ≡ neighbors a p q

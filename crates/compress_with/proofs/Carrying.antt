@@ -7,13 +7,14 @@ use native.Mathlib.Omega.{arith}
 use native.Mathlib.Nat.{add-zero}
 use native.Mathlib.Numerals.{add-one}
 use lib.ListN.{length, getD, set, take, drop, length-append, length-set}
-use lib.Seq.{take-suc-set, drop-set-lt, drop-drop, getD-drop}
+use lib.Seq.{take-suc, take-suc-set, drop-set-lt, drop-drop, getD-drop}
 use Rattle.definitions.specs.Columns.{at, slotsFrom, keep}
 use Rattle.definitions.specs.Arena.{allocated, linkSlots}
 use Rattle.definitions.proofs.Columns.{at-suc}
-use Rattle.definitions.proofs.Slots.{allocated-yes, allocated-free}
-use Rattle.compress_with.specs.Moves.{Carried}
-use Rattle.compress_with.proofs.Numbers.{linksUpto, keep-end, keep-not-end}
+use Rattle.definitions.proofs.Slots.{allocated-yes, allocated-free, length-slots}
+use Rattle.definitions.proofs.Count.{In, in-here, in-there, only-links}
+use Rattle.compress_with.specs.Moves.{Movable, Carried, carriedName, Full}
+use Rattle.compress_with.proofs.Numbers.{linksUpto, keep-end, keep-not-end, map-end}
 
 -- of the links that the numbers of n slots show, those in the first i slots are moved: their words f are at the front
 pub record Carrying (f : ℕ → ℕ) (numbers old : List ℕ) (n i count : ℕ) (column : List ℕ) : Type 0 where
@@ -77,3 +78,26 @@ module _ (f : ℕ → ℕ) (numbers old : List ℕ) (n : ℕ) where
       let e : i ≡ n = omega arith in
       let counted : count ≡ length (linkSlots numbers n) = rw e at (r .counted) in
       record { front = rw (← counted) (rw e at (r .front)); rest = rw e at (r .rest) }
+
+-- ---- where no slot is free every word is where it belongs
+
+pub map-agree : (f g : ℕ → ℕ) (xs : List ℕ) → ((x : ℕ) → In x xs → f x ≡ g x) → map f xs ≡ map g xs
+map-agree f g [] h = refl
+map-agree f g (x ∷ xs) h = rw (h x (in-here x xs), map-agree f g xs (λ y i. h y (in-there y x xs i))) refl
+
+take-slots : (xs : List ℕ) (n : ℕ) → n ≤ length xs → take n xs ≡ map (at xs) (slotsFrom 1 n)
+unfolding slotsFrom
+take-slots xs zero h = refl
+take-slots xs (suc k) h = take-suc xs k 0 h ∙ (rw (take-slots xs k (omega arith), ← at-suc xs k) (sym (map-end (at xs) k)))
+
+module _ (numbers column : List ℕ) (n : ℕ) (room : n ≤ length column) (full : Full numbers n) where
+  pub carried-in-place : (f : ℕ → ℕ) → ((o : ℕ) → In o (slotsFrom 1 n) → f o ≡ at column o) → Carried f (linkSlots numbers n) n column column
+  carried-in-place f same =
+      record { front = rw (full .0, length-slots 1 n) (take-slots column n room ∙ sym (map-agree f (at column) (slotsFrom 1 n) same)); rest = refl }
+
+  pub words-in-place : Carried (at column) (linkSlots numbers n) n column column
+  words-in-place = carried-in-place (at column) (λ o i. refl)
+
+pub names-in-place : (numbers column : List ℕ) (n : ℕ) → Full numbers n → Movable numbers n column → Carried (carriedName numbers column) (linkSlots numbers n) n column column
+names-in-place numbers column n full m =
+    carried-in-place numbers column n (m .within) full (carriedName numbers column) (λ o i. full .1 _ (m .named o (only-links numbers n o (rw (full .0) i))))

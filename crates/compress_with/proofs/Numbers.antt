@@ -15,7 +15,7 @@ use Rattle.definitions.specs.Compress.{place, movesOf}
 use Rattle.definitions.proofs.Columns.{at-suc}
 use Rattle.definitions.proofs.Slots.{allocated-yes, allocated-free, slots-snoc, length-slots, keep-append}
 use Rattle.compress_with.specs.Moves.{numbered, Numbered}
-use Rattle.compress_with.proofs.Written.{written-none, length-written, written-more, written-kept, written-behind, written-front}
+use Rattle.definitions.proofs.Written.{written-none, length-written, written-more, written-kept, written-behind}
 use Rattle.compress_with.proofs.Place.{place-lacks, place-has, place-within}
 
 -- ---- a run of slots with one more at its end

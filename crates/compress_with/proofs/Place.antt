@@ -1,31 +1,20 @@
--- Laws of the place of a slot in a list: in a list without it, in a list that is kept of a rising run, and in a run itself. Assumes nothing.
+-- Laws of the place of a slot among those of a rising run that pass a test. Assumes nothing.
 use Prim.Native.Nat.{ℕ, zero, suc, _+_, _-_, _≤_, _<_}
 use mathlib.Core.Path.{_≡_, refl, sym, ap, _∙_}
-use mathlib.Core.Bool.{Bool, true, false, cond, not, true≢false}
-use mathlib.Core.List.{List, [], _∷_, _++_}
+use mathlib.Core.Bool.{Bool, true, false}
+use mathlib.Core.List.{List, [], _∷_}
 use native.Mathlib.Omega.{arith}
 use native.Mathlib.Nat.{sub-self}
 use native.Mathlib.Decide.{ℕ-discrete}
 use lib.ListN.{length}
 use lib.Dec.{eqb}
-use borrow.Author.Tests.{eq-eqb, ne-eqb}
-use Rattle.definitions.specs.Columns.{slotsFrom, keep}
+use Rattle.definitions.specs.Columns.{at, slotsFrom, keep}
 use Rattle.definitions.specs.Compress.{place}
 use Rattle.definitions.proofs.Tests.{by-test}
-use Rattle.definitions.proofs.Count.{keep-yes, keep-no}
-
-pub place-here : (x : ℕ) (w : List ℕ) → place (x ∷ w) x ≡ 1
-unfolding place
-place-here x w = rw (eq-eqb x x refl) refl
-
--- one further on in the list behind another slot
-pub place-there : (y x : ℕ) (w : List ℕ) → (y ≡ x → ⊥) → (place w x ≡ 0 → ⊥) → place (y ∷ w) x ≡ suc (place w x)
-unfolding place
-place-there y x w d p = rw (ne-eqb y x d, ne-eqb (place w x) 0 p) refl
-
-pub place-nowhere : (y x : ℕ) (w : List ℕ) → (y ≡ x → ⊥) → place w x ≡ 0 → place (y ∷ w) x ≡ 0
-unfolding place
-place-nowhere y x w d p = rw (ne-eqb y x d, p) refl
+use Rattle.definitions.proofs.Slots.{length-slots}
+use Rattle.definitions.proofs.Count.{keep-lacks, slots-once}
+use Rattle.definitions.proofs.Parts.{at-own}
+use Rattle.renaming.proofs.Place.{place-here, place-later, place-none, place-at}
 
 pub place-within : (w : List ℕ) (x : ℕ) → place w x ≤ length w
 unfolding place
@@ -36,11 +25,7 @@ place-within (y ∷ w) x =
 module _ (test : ℕ → Bool) where
   -- a slot that is not kept has no place
   pub place-lacks : (x s k : ℕ) → test x ≡ false → place (keep test (slotsFrom s k)) x ≡ 0
-  unfolding slotsFrom keep place
-  place-lacks x s zero e = refl
-  place-lacks x s (suc k) e =
-      let rest = place-lacks x (suc s) k e in
-      by-test (test s) (λ t. rw t (place-nowhere s x (keep test (slotsFrom (suc s) k)) (λ q. true≢false (sym t ∙ ap test q ∙ e)) rest)) (λ t. rw t rest)
+  place-lacks x s k e = place-none _ x (keep-lacks test x (slotsFrom s k) e)
 
   -- a slot that is kept has the place behind those that are kept before it
   pub place-has : (x s k : ℕ) → test x ≡ true → s ≤ x → x < s + k → place (keep test (slotsFrom s k)) x ≡ suc (length (keep test (slotsFrom s (x - s))))
@@ -53,4 +38,10 @@ module _ (test : ℕ → Bool) where
       go (no d) ih =
           let later = ih (omega arith) (omega arith) in
           let before : x - s ≡ suc (x - suc s) = omega arith in
-          rw before (by-test (test s) (λ t. rw t (place-there s x (keep test (slotsFrom (suc s) k)) d (λ z. omega (arith, later)) ∙ ap suc later)) (λ t. rw t later))
+          rw before (by-test (test s) (λ t. rw t (place-later s (keep test (slotsFrom (suc s) k)) x d (omega (arith, later)) ∙ ap suc later)) (λ t. rw t later))
+
+-- in the run from slot 1 on, every slot is in its own place
+pub place-own : (n x : ℕ) → 1 ≤ x → x ≤ n → place (slotsFrom 1 n) x ≡ x
+place-own n x p h =
+    let own = at-own n x h in
+    ap (place (slotsFrom 1 n)) (sym own) ∙ place-at (slotsFrom 1 n) x p (rw (length-slots 1 n) h) (slots-once 1 n (at (slotsFrom 1 n) x))

@@ -1,5 +1,5 @@
 -- What the steps of a compression leave: the generation, then the links' new slots in the generation column, then the columns moved down.
-use Prim.Native.Nat.{ℕ, _≤_}
+use Prim.Native.Nat.{ℕ, _*_, _≤_}
 use mathlib.Core.Path.{_≡_}
 use mathlib.Core.Bool.{Bool, true}
 use mathlib.Core.List.{List, map}
@@ -38,3 +38,18 @@ carriedName numbers column o = at numbers (at column o)
 pub record Carried (f : ℕ → ℕ) (w : List ℕ) (n : ℕ) (old column : List ℕ) : Type 0 where
   pub front : take (length w) column ≡ map f w
   pub rest : drop n column ≡ drop n old
+
+-- every slot up to n is a link, and keeps its slot
+abbrev pub Full : List ℕ → ℕ → Type 0
+Full numbers n = (linkSlots numbers n ≡ slotsFrom 1 n) × ((s : ℕ) → s ≤ n → at numbers s ≡ s)
+
+-- columns with a stack of n slots whose links' neighbours are slots of the stack, and a report that is long enough
+pub record Compressible (ps ns gs vs : List ℕ) (n report : ℕ) : Type 0 where
+  pub small : n ≤ 65535
+  pub prev-within : n ≤ length ps
+  pub next-within : n ≤ length ns
+  pub generation-within : n ≤ length gs
+  pub payload-within : n ≤ length vs
+  pub prev : (o : ℕ) → allocated gs n o ≡ true → at ps o ≤ n
+  pub next : (o : ℕ) → allocated gs n o ≡ true → at ns o ≤ n
+  pub room : 4 * length (linkSlots gs n) ≤ report

@@ -1,9 +1,9 @@
 // Order-preserving compression (`compress_with` of chain/impl_chain_arena_trait.rs) in the lent columns, with no memory beyond them: every link gets
 // the new generation in the end, so meanwhile the generation column holds each link's new slot.
 ghost use mathlib.Core.Path.{_≡_};
-ghost use mathlib.Core.List.{List, [], _∷_};
+ghost use mathlib.Core.List.{List, [], _∷_, _++_};
 ghost use Prim.Native.Nat.{ℕ, _+_, _*_, _≤_, _<_};
-ghost use lib.ListN.{length, getD, replicate};
+ghost use lib.ListN.{length, getD, drop, replicate};
 ghost use lib.Seq.{sets};
 ghost use Rattle.definitions.specs.Columns.{at, written};
 ghost use Rattle.definitions.specs.Arena.{arena, capacityLimit, largestGeneration, headerWords, linkSlots};
@@ -12,7 +12,7 @@ ghost use Rattle.definitions.specs.Reply.{reply};
 ghost use Rattle.definitions.specs.Compress.{compressedHeader, relocate, movesOf, compressWith};
 ghost use Rattle.ptr.specs.Extra.{invalidationNumber};
 ghost use Rattle.compress_with.specs.Answers.{compressedNumber};
-ghost use Rattle.compress_with.specs.Moves.{Renewed, Numbered, Movable, Carried, carriedName};
+ghost use Rattle.compress_with.specs.Moves.{Renewed, Numbered, Movable, Carried, carriedName, Full, Compressible};
 use base_freelist::inc_generation;
 use base_freelist::pop_slots;
 use ptr::Gen;
@@ -22,6 +22,18 @@ use ptr::InvalidationOption;
 pub enum Compressed {
     Done(InvalidationOption),
     NoRoom,
+}
+
+impl Compressed {
+    // Document 01's number for the answer.
+    pub fn number(self) -> u32
+        ensures { λ r. ⌜ r ≡ compressedNumber self ⌝ }
+    {
+        match self {
+            Compressed::Done(overflow) => overflow.number(),
+            Compressed::NoRoom => 14,
+        }
+    }
 }
 
 // 'Compression first raises the generation and answers whether it overflowed, or sets it to 2 on reset, which is never an overflow.'
@@ -113,4 +125,100 @@ pub fn move_payloads(payload: &mut [u32], numbers: &[u32], n: usize)
         }
         i += 1;
     }
+}
+
+// Moves the links down in slot order, each neighbour under its new name. Nothing moves where no slot is free.
+pub fn move_down(
+    prev: &mut [u16],
+    next: &mut [u16],
+    payload: &mut [u32],
+    numbers: &[u32],
+    n: usize,
+    count: usize,
+)
+    requires { ⌜ Movable (now numbers) n (now prev) ⌝ }
+    requires { ⌜ Movable (now numbers) n (now next) ⌝ }
+    requires { ⌜ n ≤ length (now payload) ⌝ }
+    requires { ⌜ (count ≡ n → Full (now numbers) n) ⌝ }
+    ensures { λ _. ⌜ Carried (carriedName (now (numbers .entry)) (now (prev .entry))) (linkSlots (now (numbers .entry)) n) n (now (prev .entry)) (now (prev .exit)) ⌝ }
+    ensures { λ _. ⌜ Carried (carriedName (now (numbers .entry)) (now (next .entry))) (linkSlots (now (numbers .entry)) n) n (now (next .entry)) (now (next .exit)) ⌝ }
+    ensures { λ _. ⌜ Carried (at (now (payload .entry))) (linkSlots (now (numbers .entry)) n) n (now (payload .entry)) (now (payload .exit)) ⌝ }
+{
+    if count == n {
+        return;
+    }
+    move_links(prev, numbers, n);
+    move_links(next, numbers, n);
+    move_payloads(payload, numbers, n);
+}
+
+// Gives the first k slots the generation g.
+pub fn fill_generation(generation: &mut [u32], k: usize, g: u32)
+    requires { ⌜ k ≤ length (now generation) ⌝ }
+    ensures { λ _. ⌜ now (generation .exit) ≡ replicate k g ++ drop k (now (generation .entry)) ⌝ }
+{
+    let mut i: usize = 0;
+    while i < k {
+        generation[i] = g;
+        i += 1;
+    }
+}
+
+// Moves the links of a stack of n slots down in slot order, reports them, and gives them the generation new. Answers how many there are.
+pub fn compress_columns(
+    prev: &mut [u16],
+    next: &mut [u16],
+    generation: &mut [u32],
+    payload: &mut [u32],
+    report: &mut [u32],
+    n: usize,
+    new: u32,
+) -> usize
+    requires { ⌜ Compressible (now prev) (now next) (now generation) (now payload) n (length (now report)) ⌝ }
+    ensures { λ r. ⌜ r ≡ length (linkSlots (now (generation .entry)) n) ⌝ }
+    ensures { λ r. ⌜ ((h : List ℕ) → getD h 0 0 ≡ n → arena (now (prev .exit)) (now (next .exit)) (now (generation .exit)) (now (payload .exit)) (compressedHeader r new h)
+        ≡ relocate (linkSlots (now (generation .entry)) n) new (arena (now (prev .entry)) (now (next .entry)) (now (generation .entry)) (now (payload .entry)) h)) ⌝ }
+    ensures { λ r. ⌜ ((h : List ℕ) → now (report .exit)
+        ≡ written (movesOf (arena (now (prev .entry)) (now (next .entry)) (now (generation .entry)) (now (payload .entry)) h) new 1 (linkSlots (now (generation .entry)) n)) (now (report .entry))) ⌝ }
+{
+    let count = number_links(&mut *generation, report, n, new);
+    move_down(
+        &mut *prev,
+        &mut *next,
+        &mut *payload,
+        &*generation,
+        n,
+        count,
+    );
+    fill_generation(&mut *generation, count, new);
+    pop_slots(prev, next, generation, payload, count, n);
+    count
+}
+
+// Order-preserving compression of an arena that passed the check: 'links move down in slot order'.
+pub fn compress_with(
+    prev: &mut [u16],
+    next: &mut [u16],
+    generation: &mut [u32],
+    payload: &mut [u32],
+    header: &mut [u32],
+    reset: bool,
+    report: &mut [u32],
+) -> Compressed
+    requires { ⌜ verdict capacityLimit (arena (now prev) (now next) (now generation) (now payload) (now header)) ≡ 0 ⌝ }
+    ensures { λ r. ⌜ reply (compressedNumber r) [] (arena (now (prev .exit)) (now (next .exit)) (now (generation .exit)) (now (payload .exit)) (now (header .exit))) (now (report .exit))
+        ≡ compressWith largestGeneration reset (arena (now (prev .entry)) (now (next .entry)) (now (generation .entry)) (now (payload .entry)) (now (header .entry))) (now (report .entry)) ⌝ }
+{
+    let n = header[0] as usize;
+    let links = header[1] as usize;
+    if report.len() < 4 * links {
+        return Compressed::NoRoom;
+    }
+    let renewed = renew_generation(&mut *header, reset);
+    let new = header[3];
+    let count = compress_columns(prev, next, generation, payload, report, n, new);
+    header[2] = 0;
+    header[1] = count as u32;
+    header[0] = count as u32;
+    Compressed::Done(renewed)
 }

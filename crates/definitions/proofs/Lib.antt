@@ -13,3 +13,4 @@ pub mod Parts
 pub mod Relisted
 pub mod Steps
 pub mod Numbers
+pub mod Written

@@ -118,6 +118,12 @@ corners =
     row (arena (0 ∷ 4 ∷ 0 ∷ 2 ∷ []) (3 ∷ 4 ∷ 3 ∷ 2 ∷ []) (0 ∷ 5 ∷ 0 ∷ 6 ∷ []) (0 ∷ 12 ∷ 0 ∷ 14 ∷ []) (4 ∷ 2 ∷ 1 ∷ 5 ∷ [])) (with (CompressWith false) (9 ∷ 9 ∷ 9 ∷ 9 ∷ 9 ∷ 9 ∷ 9 ∷ []) ∷ with (CompressWith false) (9 ∷ 9 ∷ 9 ∷ 9 ∷ 9 ∷ 9 ∷ 9 ∷ 9 ∷ 9 ∷ []) ∷ []) ((14 ∷ 9 ∷ 9 ∷ 9 ∷ 9 ∷ 9 ∷ 9 ∷ 9 ∷ []) ∷ (0 ∷ 2 ∷ 5 ∷ 1 ∷ 6 ∷ 4 ∷ 6 ∷ 2 ∷ 6 ∷ 9 ∷ []) ∷ []) (arena (2 ∷ 1 ∷ 0 ∷ 0 ∷ []) (2 ∷ 1 ∷ 0 ∷ 0 ∷ []) (6 ∷ 6 ∷ 0 ∷ 0 ∷ []) (12 ∷ 14 ∷ 0 ∷ 0 ∷ []) (2 ∷ 2 ∷ 0 ∷ 6 ∷ [])) ∷
     -- canonical compression from the largest generation overflows; with reset it does not; a where-from column of another length is refused
     row (arena (0 ∷ 4 ∷ 0 ∷ 2 ∷ []) (3 ∷ 4 ∷ 3 ∷ 2 ∷ []) (0 ∷ 5 ∷ 0 ∷ 6 ∷ []) (0 ∷ 12 ∷ 0 ∷ 14 ∷ []) (4 ∷ 2 ∷ 1 ∷ 4294967295 ∷ [])) (with (CompressCanonical false) (9 ∷ 9 ∷ 9 ∷ []) ∷ with (CompressCanonical false) (9 ∷ 9 ∷ 9 ∷ 9 ∷ []) ∷ with (CompressCanonical true) (9 ∷ 9 ∷ 9 ∷ 9 ∷ []) ∷ []) ((14 ∷ 9 ∷ 9 ∷ 9 ∷ []) ∷ (100 ∷ 2 ∷ 4 ∷ 0 ∷ 0 ∷ []) ∷ (0 ∷ 1 ∷ 2 ∷ 9 ∷ 9 ∷ []) ∷ []) (arena (2 ∷ 1 ∷ 0 ∷ 0 ∷ []) (2 ∷ 1 ∷ 0 ∷ 0 ∷ []) (2 ∷ 2 ∷ 0 ∷ 0 ∷ []) (12 ∷ 14 ∷ 0 ∷ 0 ∷ []) (2 ∷ 2 ∷ 0 ∷ 2 ∷ [])) ∷
+    -- words past the old stack length stay, in the columns, in the where-from column and in the report
+    row (arena (3 ∷ 0 ∷ 7 ∷ []) (1 ∷ 0 ∷ 8 ∷ []) (0 ∷ 5 ∷ 9 ∷ []) (4 ∷ 12 ∷ 6 ∷ []) (2 ∷ 1 ∷ 1 ∷ 5 ∷ [])) (with (CompressCanonical false) (9 ∷ 9 ∷ 9 ∷ []) ∷ []) ((0 ∷ 2 ∷ 0 ∷ 9 ∷ []) ∷ []) (arena (0 ∷ 0 ∷ 7 ∷ []) (0 ∷ 0 ∷ 8 ∷ []) (6 ∷ 0 ∷ 9 ∷ []) (12 ∷ 0 ∷ 6 ∷ []) (1 ∷ 1 ∷ 0 ∷ 6 ∷ [])) ∷
+    row (arena (3 ∷ 0 ∷ 7 ∷ []) (1 ∷ 0 ∷ 8 ∷ []) (0 ∷ 5 ∷ 9 ∷ []) (4 ∷ 12 ∷ 6 ∷ []) (2 ∷ 1 ∷ 1 ∷ 5 ∷ [])) (with (CompressWith true) (9 ∷ 9 ∷ 9 ∷ 9 ∷ 9 ∷ []) ∷ []) ((0 ∷ 2 ∷ 5 ∷ 1 ∷ 2 ∷ 9 ∷ []) ∷ []) (arena (0 ∷ 0 ∷ 7 ∷ []) (0 ∷ 0 ∷ 8 ∷ []) (2 ∷ 0 ∷ 9 ∷ []) (12 ∷ 0 ∷ 6 ∷ []) (1 ∷ 1 ∷ 0 ∷ 2 ∷ [])) ∷
+    -- no links: the generation stays without reset and becomes 2 with it, and the free slots go
+    row (arena (4 ∷ []) (1 ∷ []) (0 ∷ []) (6 ∷ []) (1 ∷ 0 ∷ 1 ∷ 5 ∷ [])) (with (CompressCanonical false) (9 ∷ []) ∷ []) ((0 ∷ 0 ∷ []) ∷ []) (arena (0 ∷ []) (0 ∷ []) (0 ∷ []) (0 ∷ []) (0 ∷ 0 ∷ 0 ∷ 5 ∷ [])) ∷
+    row (arena (4 ∷ []) (1 ∷ []) (0 ∷ []) (6 ∷ []) (1 ∷ 0 ∷ 1 ∷ 5 ∷ [])) (with (CompressWith true) [] ∷ []) ((0 ∷ []) ∷ []) (arena (0 ∷ []) (0 ∷ []) (0 ∷ []) (0 ∷ []) (0 ∷ 0 ∷ 0 ∷ 2 ∷ [])) ∷
     []
 
 pub corners-hold : map computed corners ≡ map expected corners

@@ -1,4 +1,3 @@
-pub mod RefusalChangesNothing
 pub mod Neighbours
 pub mod Edits
 pub mod Header
@@ -6,5 +5,3 @@ pub mod Removal
 pub mod Runs
 pub mod CanonicalFreelist
 pub mod Drain
-pub mod EveryCallKeeps
-pub mod RunIsFold

@@ -5,6 +5,9 @@ ghost use Rattle.definitions.specs.Reply.{reply};
 ghost use Rattle.definitions.specs.Calls.{Answers, Check};
 use chain_arena::check;
 
+pub mod read;
+pub mod walk;
+
 // The check's answer: 0 or the refusal, and the slot that 11 names, else 0.
 #[repr(C)]
 pub struct CheckResult {

@@ -35,9 +35,11 @@ loop-less c = search needs
 
 loop-again : tie.Need-loop-again Inv-loop μ-loop
 loop-again c =
+    let start = c .before .before .before .before .args in
+    let i = c .before .before .before .loop .i in
     ⊎-elim
-    (λ w. omega (arith, links-more (c .before .before .before .before .args .generation .now) (c .before .before .before .before .args .n) (c .before .before .before .loop .i) (c .before .before .loop-test .taken) (w .0 .taken)))
-    (λ w. omega (arith, links-same (c .before .before .before .before .args .generation .now) (c .before .before .before .before .args .n) (c .before .before .before .loop .i) (w .0 .left)))
+    (λ w. omega (arith, links-more (start .generation .now) (start .n) i (c .before .before .loop-test .taken) (w .0 .taken)))
+    (λ w. omega (arith, links-same (start .generation .now) (start .n) i (w .0 .left)))
     (c .if1 .came)
 
 returns : tie.Need-returns Inv-loop μ-loop

@@ -14,8 +14,13 @@ allocated-slots-requires c κs = search needs
 returns : tie.Need-returns
 returns c = by-count _ _ _ _ _ _ _ (c .before .allocated-slots .ensures) (search tests depth 20)
 
+cast-free : tie.Need-cast-free
+cast-free c = search needs
+
 sub-free : tie.Need-sub-free
-sub-free c = omega (arith, links-and-free (c .before .before .before .before .args .generation .now) (c .before .before .before .before .args .n))
+sub-free c =
+    let start = c .before .before .before .before .args in
+    omega (arith, links-and-free (start .generation .now) (start .n))
 
 returns-2 : tie.Need-returns-2
 returns-2 c = by-count _ _ _ _ _ _ _ (c .before .before .before .allocated-slots .ensures) (search tests depth 20)
@@ -38,6 +43,7 @@ counts-spec =
     (tie.spec
     allocated-slots-requires
     returns
+    cast-free
     sub-free
     returns-2
     returns-3

@@ -5,7 +5,7 @@ use native.Mathlib.Omega.{arith}
 use borrow.Author.Needs.{needs}
 use lib.ListN.{length-set}
 use Rattle.definitions.proofs.Shaped.{shaped}
-use Rattle.base_freelist.proofs.Rising.{highest-within}
+use Rattle.base_freelist.proofs.Rising.{ends-within}
 use Rattle.base_freelist.proofs.Canonicalized.{canonicalized}
 use Rattle.base_freelist.proofs.canonicalize_freelist.Statement.{statement}
 use Rattle.base_freelist.proofs.canonicalize_freelist.Tie as tie
@@ -22,12 +22,12 @@ highest-link-requires c κs = let s = shaped _ _ (c .before .before .before .bef
 relist-requires : tie.Need-relist-requires
 relist-requires c κs =
     let s = shaped _ _ (c .before .before .before .before .before .before .before .before .before .before .pre) in
-    omega (arith, highest-within _ _ _ (c .before .before .highest-link .ensures))
+    omega (arith, ends-within _ _ _ (c .before .before .highest-link .ensures))
 
 pop-slots-requires : tie.Need-pop-slots-requires
 pop-slots-requires c κs =
     let s = shaped _ _ (c .before .before .before .before .before .before .before .before .before .before .before .before .before .before .before .before .before .pre) in
-    omega (arith, highest-within _ _ _ (c .before .before .before .before .before .before .before .before .before .highest-link .ensures), c .before .before .before .before .before .before .relist .kept)
+    omega (arith, ends-within _ _ _ (c .before .before .before .before .before .before .before .before .before .highest-link .ensures), c .before .before .before .before .before .before .relist .kept)
 
 cast-header : tie.Need-cast-header
 cast-header c = search needs
@@ -38,7 +38,7 @@ slice-write-header c = let s = shaped _ _ (c .before .before .before .before .be
 cast-header-2 : tie.Need-cast-header-2
 cast-header-2 c =
     let s = shaped _ _ (c .before .before .before .before .before .before .before .before .before .before .before .before .before .before .before .before .before .before .before .before .before .before .before .before .before .before .pre) in
-    omega (arith, highest-within _ _ _ (c .before .before .before .before .before .before .before .before .before .before .before .before .before .before .before .before .before .before .highest-link .ensures))
+    omega (arith, ends-within _ _ _ (c .before .before .before .before .before .before .before .before .before .before .before .before .before .before .before .before .before .before .highest-link .ensures))
 
 slice-write-header-2 : tie.Need-slice-write-header-2
 slice-write-header-2 c = let s = shaped _ _ (c .before .before .before .before .before .before .before .before .before .before .before .before .before .before .before .before .before .before .before .before .before .before .before .before .before .before .pre) in simp length-set (omega arith)

@@ -37,14 +37,11 @@ cast-n c = fits-widen tt (c .shared-slice-known6 .given _)
 shared-slice-read-counts : tie.Need-shared-slice-read-counts
 shared-slice-read-counts c = let h = shape-passed (c .before .before) in omega arith
 
-cast-counts : tie.Need-cast-counts
-cast-counts c = fits-widen tt (c .shared-slice-known7 .given _)
-
 shared-slice-read-counts-2 : tie.Need-shared-slice-read-counts-2
 shared-slice-read-counts-2 c = let h = shape-passed (c .before .before .before) in omega arith
 
-cast-counts-2 : tie.Need-cast-counts-2
-cast-counts-2 c = fits-widen tt (c .shared-slice-known8 .given _)
+cast-counts : tie.Need-cast-counts
+cast-counts c = fits-widen tt (c .shared-slice-known8 .given _)
 
 counts-requires : tie.Need-counts-requires
 counts-requires c κs = let h = shape-passed (c .before .before .before) in search needs
@@ -55,8 +52,8 @@ returns-2 c = checks-counts _ _ (shape-passed (c .before .before .before .before
 interlinks-requires : tie.Need-interlinks-requires
 interlinks-requires c κs = let h = shape-passed (c .before .before .before .before .before) in search needs
 
-cast-t18 : tie.Need-cast-t18
-cast-t18 c = let h = shape-passed (c .before .before .before .before .before .before .before) in omega arith
+cast-slot : tie.Need-cast-slot
+cast-slot c = let h = shape-passed (c .before .before .before .before .before .before .before) in omega arith
 
 returns-3 : tie.Need-returns-3
 returns-3 c = checks-broken _ _ (shape-passed (c .before .before .before .before .before .before .before)) (counts-passed (c .before .before)) (c .before .interlinks .ensures .1 ∙ ne-eqb _ 0 (c .if3 .taken)) (c .before .interlinks .ensures .2 (c .if3 .taken))
@@ -73,12 +70,11 @@ check-spec =
     shared-slice-read-n
     cast-n
     shared-slice-read-counts
-    cast-counts
     shared-slice-read-counts-2
-    cast-counts-2
+    cast-counts
     counts-requires
     returns-2
     interlinks-requires
-    cast-t18
+    cast-slot
     returns-3
     returns-4)

@@ -39,11 +39,7 @@ use Rattle.definitions.specs.Calls.{
   replyTo,
 }
 use Rattle.definitions.specs.Demand3.{Accepted}
-
--- a reply r to a call on the arena a that was handed l: where it is a refusal, a and l are as they were
-pub record Unchanged (a : Arena) (l : List ℕ) (r : Reply) : Type 0 where
-  pub arena : (Accepted r → ⊥) → r .arena ≡ a
-  pub back : (Accepted r → ⊥) → r .back ≡ l
+use Rattle.every_call.specs.Statements.{Unchanged}
 
 module _ (a : Arena) (l : List ℕ) where
   refuses : (k n : ℕ) → Unchanged a l (refusal k n a l)

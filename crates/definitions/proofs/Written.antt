@@ -5,10 +5,10 @@ use mathlib.Core.List.{List, [], _∷_, _++_, append-assoc}
 use native.Mathlib.Omega.{arith}
 use native.Mathlib.Nat.{add-zero}
 use native.Mathlib.Numerals.{add-one}
-use lib.ListN.{length, getD, set, take, drop, length-append, length-drop, List·getD-append}
+use lib.ListN.{length, getD, set, take, drop, length-append, length-drop}
 use lib.Seq.{sets, sets-eq, take-append-seam, drop-append-add, drop-drop, getD-append-add, drop-cons, getD-drop, append-snoc}
 use Rattle.definitions.specs.Columns.{at, written}
-use Rattle.definitions.proofs.Columns.{at-suc}
+use Rattle.definitions.proofs.Parts.{at-append-left}
 
 pub written-none : (old : List ℕ) → written [] old ≡ old
 unfolding written
@@ -44,6 +44,12 @@ module _ (ws old : List ℕ) where
       ∙ (getD-append-add ws (drop (length ws) old) 0 0 ∙ (getD-drop (length ws) old 0 0 ∙ ap (λ (i : ℕ). getD old i 0) (add-zero (length ws)))))
 
 -- the words at the front
-pub written-front : (ws old : List ℕ) (i : ℕ) → i < length ws → getD (written ws old) i 0 ≡ getD ws i 0
+pub written-reads : (ws old : List ℕ) (s : ℕ) → s ≤ length ws → at (written ws old) s ≡ at ws s
 unfolding written
-written-front ws old i h = List·getD-append ws _ 0 i h
+written-reads ws old s h = at-append-left ws _ s h
+
+-- the words past those at the front
+pub written-rest : (ws old : List ℕ) (n : ℕ) → length ws ≤ n → drop n (written ws old) ≡ drop n old
+written-rest ws old n h =
+    let e : length ws + (n - length ws) ≡ n = omega arith in
+    rw (← e) (behind ws old (n - length ws))

@@ -16,17 +16,10 @@ use Rattle.definitions.specs.Remove.{remove}
 use Rattle.definitions.specs.Run.{Command, commandWords, commandsOf, apply, applied, answersOf, run}
 use Rattle.definitions.specs.Calls.{Run, accepted, replyTo}
 use Rattle.definitions.specs.Demand3.{Accepted}
-use Rattle.kept.proofs.RefusalChangesNothing.{refused-command}
+use Rattle.every_call.specs.Statements.{AnswerWord, done, done-with-overflow, stale, neighbour, no-code, OneCommand}
+use Rattle.every_call.proofs.RefusalChangesNothing.{refused-command}
 
 -- ---- one command
-
--- the words that a command can answer
-pub data AnswerWord : ℕ → Type 0 where
-  done : AnswerWord 0
-  done-with-overflow : AnswerWord 100
-  stale : AnswerWord 12
-  neighbour : AnswerWord 13
-  no-code : AnswerWord 16
 
 answer-over : (over : Bool) → AnswerWord (doneNumber over)
 answer-over true = done-with-overflow
@@ -35,10 +28,6 @@ answer-over false = done
 either-answers : (t : Bool) (r s : Reply) → AnswerWord (r .number) → AnswerWord (s .number) → AnswerWord (cond t r s .number)
 either-answers true r s u v = u
 either-answers false r s u v = v
-
-pub record OneCommand (a : Arena) (r : Reply) : Type 0 where
-  pub answer : AnswerWord (r .number)
-  pub refused : (Accepted r → ⊥) → r .arena ≡ a
 
 pub one-command : (top : ℕ) (a : Arena) (c : Command) → OneCommand a (apply top a c)
 unfolding apply connect breakPrev breakNext exchangeNext remove

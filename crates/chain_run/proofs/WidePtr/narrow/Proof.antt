@@ -1,0 +1,18 @@
+-- `chain_run::WidePtr::narrow` meets its contract. One test, whether the slot fits 16 bits. Assumes nothing.
+use mathlib.Core.Path.{refl}
+use borrow.Author.Needs.{needs}
+use borrow.Author.Tests.{lt-ltb, le-ltb}
+use Rattle.chain_run.proofs.WidePtr.narrow.Statement.{statement}
+use Rattle.chain_run.proofs.WidePtr.narrow.Tie as tie
+
+returns : tie.Need-returns
+returns c = rw (lt-ltb _ _ (c .if1 .taken)) refl
+
+cast-t6 : tie.Need-cast-t6
+cast-t6 c = search needs
+
+returns-2 : tie.Need-returns-2
+returns-2 c = rw (le-ltb _ _ (c .if1 .left)) refl
+
+pub narrow-spec : {M : Type 1} → statement M
+narrow-spec = tie.close (tie.spec returns cast-t6 returns-2)

@@ -1,0 +1,182 @@
+-- `chain_run::apply` meets its contract. A command on narrowed pointers is the command, and its code says which edit it is. Assumes nothing.
+use borrow.Author.Needs.{needs}
+use Rattle.chain_run.proofs.Step.{connects, breaks-prev, breaks-next, exchanges, removes, no-code}
+use Rattle.chain_run.proofs.apply.Statement.{statement}
+use Rattle.chain_run.proofs.apply.Tie as tie
+
+narrow-requires : tie.Need-narrow-requires
+narrow-requires c κs = search needs
+
+narrow-requires-2 : tie.Need-narrow-requires-2
+narrow-requires-2 c κs = search needs
+
+connect-requires : tie.Need-connect-requires
+connect-requires c κs = search needs
+
+number-requires : tie.Need-number-requires
+number-requires c κs = search needs
+
+break-prev-requires : tie.Need-break-prev-requires
+break-prev-requires c κs = search needs
+
+number-requires-2 : tie.Need-number-requires-2
+number-requires-2 c κs = search needs
+
+break-next-requires : tie.Need-break-next-requires
+break-next-requires c κs = search needs
+
+number-requires-3 : tie.Need-number-requires-3
+number-requires-3 c κs = search needs
+
+exchange-next-requires : tie.Need-exchange-next-requires
+exchange-next-requires c κs = search needs
+
+number-requires-4 : tie.Need-number-requires-4
+number-requires-4 c κs = search needs
+
+remove-requires : tie.Need-remove-requires
+remove-requires c κs = search needs
+
+removal-number-requires : tie.Need-removal-number-requires
+removal-number-requires c κs = search needs
+
+same-length : tie.Need-same-length
+same-length c = search needs
+
+same-length-2 : tie.Need-same-length-2
+same-length-2 c = search needs
+
+same-length-3 : tie.Need-same-length-3
+same-length-3 c = search needs
+
+same-length-4 : tie.Need-same-length-4
+same-length-4 c = search needs
+
+same-length-5 : tie.Need-same-length-5
+same-length-5 c = search needs
+
+returns : tie.Need-returns
+returns c = connects _ _ (c .before .before .before .before .before .before .before .before .before .before .before .before .before .before .before .before .before .before .before .before .before .pre) _ _ _ (c .before .before .before .before .before .before .before .before .before .before .before .before .before .narrow .ensures) (c .before .before .before .before .before .before .before .before .before .before .before .before .narrow2 .ensures) _ _ _ (c .number .ensures) (c .before .before .before .before .before .before .before .before .before .before .before .match .keys1) (c .before .before .before .before .before .connect .ensures)
+
+same-length-6 : tie.Need-same-length-6
+same-length-6 c = search needs
+
+same-length-7 : tie.Need-same-length-7
+same-length-7 c = search needs
+
+same-length-8 : tie.Need-same-length-8
+same-length-8 c = search needs
+
+same-length-9 : tie.Need-same-length-9
+same-length-9 c = search needs
+
+same-length-10 : tie.Need-same-length-10
+same-length-10 c = search needs
+
+returns-2 : tie.Need-returns-2
+returns-2 c = breaks-prev _ _ (c .before .before .before .before .before .before .before .before .before .before .before .before .before .before .before .before .before .before .before .before .before .pre) _ _ _ (c .before .before .before .before .before .before .before .before .before .before .before .before .before .narrow .ensures) (c .before .before .before .before .before .before .before .before .before .before .before .before .narrow2 .ensures) _ _ _ (c .number2 .ensures) (c .before .before .before .before .before .before .before .before .before .before .before .match .keys2) (c .before .before .before .before .before .break-prev .ensures)
+
+same-length-11 : tie.Need-same-length-11
+same-length-11 c = search needs
+
+same-length-12 : tie.Need-same-length-12
+same-length-12 c = search needs
+
+same-length-13 : tie.Need-same-length-13
+same-length-13 c = search needs
+
+same-length-14 : tie.Need-same-length-14
+same-length-14 c = search needs
+
+same-length-15 : tie.Need-same-length-15
+same-length-15 c = search needs
+
+returns-3 : tie.Need-returns-3
+returns-3 c = breaks-next _ _ (c .before .before .before .before .before .before .before .before .before .before .before .before .before .before .before .before .before .before .before .before .before .pre) _ _ _ (c .before .before .before .before .before .before .before .before .before .before .before .before .before .narrow .ensures) (c .before .before .before .before .before .before .before .before .before .before .before .before .narrow2 .ensures) _ _ _ (c .number3 .ensures) (c .before .before .before .before .before .before .before .before .before .before .before .match .keys3) (c .before .before .before .before .before .break-next .ensures)
+
+same-length-16 : tie.Need-same-length-16
+same-length-16 c = search needs
+
+same-length-17 : tie.Need-same-length-17
+same-length-17 c = search needs
+
+same-length-18 : tie.Need-same-length-18
+same-length-18 c = search needs
+
+same-length-19 : tie.Need-same-length-19
+same-length-19 c = search needs
+
+same-length-20 : tie.Need-same-length-20
+same-length-20 c = search needs
+
+returns-4 : tie.Need-returns-4
+returns-4 c = exchanges _ _ (c .before .before .before .before .before .before .before .before .before .before .before .before .before .before .before .before .before .before .before .before .before .pre) _ _ _ (c .before .before .before .before .before .before .before .before .before .before .before .before .before .narrow .ensures) (c .before .before .before .before .before .before .before .before .before .before .before .before .narrow2 .ensures) _ _ _ (c .number4 .ensures) (c .before .before .before .before .before .before .before .before .before .before .before .match .keys4) (c .before .before .before .before .before .exchange-next .ensures)
+
+same-length-21 : tie.Need-same-length-21
+same-length-21 c = search needs
+
+same-length-22 : tie.Need-same-length-22
+same-length-22 c = search needs
+
+same-length-23 : tie.Need-same-length-23
+same-length-23 c = search needs
+
+same-length-24 : tie.Need-same-length-24
+same-length-24 c = search needs
+
+same-length-25 : tie.Need-same-length-25
+same-length-25 c = search needs
+
+returns-5 : tie.Need-returns-5
+returns-5 c = removes _ _ (c .before .before .before .before .before .before .before .before .before .before .before .before .before .before .before .before .before .before .before .before .before .before .before .before .before .before .before .pre) _ _ _ (c .before .before .before .before .before .before .before .before .before .before .before .before .before .before .before .before .before .before .before .narrow .ensures) (c .before .before .before .before .before .before .before .before .before .before .before .before .before .before .before .before .before .before .narrow2 .ensures) _ _ (c .before .before .before .before .before .before .before .before .before .before .before .before .before .before .before .before .before .match .keys5) (c .before .before .before .before .before .before .before .before .before .before .before .remove .result) (c .before .before .before .before .before .before .before .before .before .before .before .remove .ensures) (c .removal-number .ensures)
+
+returns-6 : tie.Need-returns-6
+returns-6 c = no-code _ _ _ (c .match .rest .0 .0 .0 .0 .1) (c .match .rest .0 .0 .0 .1) (c .match .rest .0 .0 .1) (c .match .rest .0 .1) (c .match .rest .1)
+
+pub apply-spec : {M : Type 1} → statement M
+apply-spec =
+    tie.close
+    (tie.spec
+    narrow-requires
+    narrow-requires-2
+    connect-requires
+    number-requires
+    break-prev-requires
+    number-requires-2
+    break-next-requires
+    number-requires-3
+    exchange-next-requires
+    number-requires-4
+    remove-requires
+    removal-number-requires
+    same-length
+    same-length-2
+    same-length-3
+    same-length-4
+    same-length-5
+    returns
+    same-length-6
+    same-length-7
+    same-length-8
+    same-length-9
+    same-length-10
+    returns-2
+    same-length-11
+    same-length-12
+    same-length-13
+    same-length-14
+    same-length-15
+    returns-3
+    same-length-16
+    same-length-17
+    same-length-18
+    same-length-19
+    same-length-20
+    returns-4
+    same-length-21
+    same-length-22
+    same-length-23
+    same-length-24
+    same-length-25
+    returns-5
+    returns-6)

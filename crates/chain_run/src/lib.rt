@@ -1,0 +1,196 @@
+// A run of edits on an arena that passed the check: 'Command: code, two slots each followed by its generation'.
+ghost use mathlib.Core.Path.{_≡_};
+ghost use mathlib.Core.List.{List};
+ghost use Prim.Native.Nat.{ℕ, _+_, _*_, _/_, _≤_};
+ghost use lib.ListN.{length};
+ghost use Rattle.definitions.specs.Arena.{Arena, arena, capacityLimit, largestGeneration};
+ghost use Rattle.definitions.specs.Check.{WellFormed};
+ghost use Rattle.definitions.specs.Run.{commandWords, commandAt, run};
+ghost use Rattle.links.specs.Links.{removalReply};
+ghost use Rattle.chain_traits.specs.Read.{pointerOf};
+ghost use Rattle.chain_run.specs.Commands.{widePointer, narrowed, commandOf, Applied, AllApplied, ranNumber, ranReply};
+use chain_edits::break_next;
+use chain_edits::break_prev;
+use chain_edits::connect;
+use chain_edits::exchange_next;
+use chain_edits::remove;
+use links::InvalidationResult;
+use ptr::Gen;
+use ptr::Ptr;
+use ptr::Slot;
+
+// The number of words of a command.
+pub const COMMAND_WORDS: usize = 5;
+
+// A pointer as a command has it: any word may stand for its slot.
+pub struct WidePtr {
+    pub slot: u32,
+    pub generation: Gen,
+}
+
+impl WidePtr {
+    // The pointer in 16 bits; 'A slot over 65,535 is stale', as slot 0 is.
+    pub fn narrow(self) -> Ptr
+        ensures { λ r. ⌜ pointerOf r ≡ narrowed (widePointer self) ⌝ }
+    {
+        let slot = self.slot;
+        let generation = self.generation;
+        if 65535 < slot {
+            return Ptr {
+                inx: Slot(0),
+                generation: generation,
+            };
+        }
+        Ptr {
+            inx: Slot(slot as u16),
+            generation: generation,
+        }
+    }
+}
+
+// A command: codes 1 connect, 2 break prev, 3 break next, 4 exchange, 5 remove.
+pub struct Command {
+    pub code: u32,
+    pub first: WidePtr,
+    pub second: WidePtr,
+}
+
+// Command i, from 0, of the words.
+pub fn command_at(commands: &[u32], i: usize) -> Command
+    requires { ⌜ commandWords * i + commandWords ≤ length (now commands) ⌝ }
+    ensures { λ r. ⌜ commandOf r ≡ commandAt (now (commands .entry)) i ⌝ }
+{
+    let w = COMMAND_WORDS * i;
+    Command {
+        code: commands[w],
+        first: WidePtr {
+            slot: commands[w + 1],
+            generation: Gen(commands[w + 2]),
+        },
+        second: WidePtr {
+            slot: commands[w + 3],
+            generation: Gen(commands[w + 4]),
+        },
+    }
+}
+
+// Document 01's number for the answer of a removal.
+pub fn removal_number(r: InvalidationResult) -> u32
+    ensures { λ k. ⌜ ((a : Arena) (l : List ℕ) → k ≡ removalReply r a l .number) ⌝ }
+{
+    match r {
+        InvalidationResult::Success(_) => 0,
+        InvalidationResult::GenerationOverflow(_) => 100,
+        InvalidationResult::InvalidPtr => 12,
+    }
+}
+
+// One command. Answers 0, 100, 12, 13, or 16 for another code.
+pub fn apply(
+    prev: &mut [u16],
+    next: &mut [u16],
+    generation: &mut [u32],
+    payload: &mut [u32],
+    header: &mut [u32],
+    c: Command,
+) -> u32
+    requires { ⌜ WellFormed capacityLimit (arena (now prev) (now next) (now generation) (now payload) (now header)) ⌝ }
+    ensures { λ r. ⌜ Applied largestGeneration
+        (arena (now (prev .entry)) (now (next .entry)) (now (generation .entry)) (now (payload .entry)) (now (header .entry))) (commandOf c) r
+        (arena (now (prev .exit)) (now (next .exit)) (now (generation .exit)) (now (payload .exit)) (now (header .exit))) ⌝ }
+{
+    let first = c.first;
+    let second = c.second;
+    let code = c.code;
+    let p = first.narrow();
+    let q = second.narrow();
+    match code {
+        1 => connect(prev, next, &*generation, &*payload, &*header, p, q).number(),
+        2 => break_prev(prev, next, &*generation, &*payload, &*header, p).number(),
+        3 => break_next(prev, next, &*generation, &*payload, &*header, p).number(),
+        4 => exchange_next(prev, next, &*generation, &*payload, &*header, p, q).number(),
+        5 => removal_number(remove(prev, next, generation, payload, header, p)),
+        _ => 16,
+    }
+}
+
+// Applies the commands one after the other, and writes an answer for each.
+pub fn apply_all(
+    prev: &mut [u16],
+    next: &mut [u16],
+    generation: &mut [u32],
+    payload: &mut [u32],
+    header: &mut [u32],
+    commands: &[u32],
+    answers: &mut [u32],
+)
+    requires { ⌜ WellFormed capacityLimit (arena (now prev) (now next) (now generation) (now payload) (now header)) ⌝ }
+    requires { ⌜ length (now commands) / commandWords ≤ length (now answers) ⌝ }
+    ensures { λ _. ⌜ AllApplied largestGeneration
+        (arena (now (prev .entry)) (now (next .entry)) (now (generation .entry)) (now (payload .entry)) (now (header .entry)))
+        (now (commands .entry)) (now (answers .entry))
+        (arena (now (prev .exit)) (now (next .exit)) (now (generation .exit)) (now (payload .exit)) (now (header .exit))) (now (answers .exit)) ⌝ }
+{
+    let n = commands.len() / COMMAND_WORDS;
+    let mut i: usize = 0;
+    while i < n {
+        let c = command_at(commands, i);
+        let answer = apply(
+            &mut *prev,
+            &mut *next,
+            &mut *generation,
+            &mut *payload,
+            &mut *header,
+            c,
+        );
+        answers[i] = answer;
+        i += 1;
+    }
+}
+
+// What a run answers.
+pub enum Ran {
+    Done,
+    // The last command lacks words.
+    Incomplete,
+    // There are fewer answer words than commands.
+    TooFewAnswers,
+}
+
+impl Ran {
+    // Document 01's number for the answer.
+    pub fn number(self) -> u32
+        ensures { λ r. ⌜ r ≡ ranNumber self ⌝ }
+    {
+        match self {
+            Ran::Done => 0,
+            Ran::Incomplete => 16,
+            Ran::TooFewAnswers => 14,
+        }
+    }
+}
+
+// Runs the commands, if they are whole and there is an answer word for each.
+pub fn run(
+    prev: &mut [u16],
+    next: &mut [u16],
+    generation: &mut [u32],
+    payload: &mut [u32],
+    header: &mut [u32],
+    commands: &[u32],
+    answers: &mut [u32],
+) -> Ran
+    requires { ⌜ WellFormed capacityLimit (arena (now prev) (now next) (now generation) (now payload) (now header)) ⌝ }
+    ensures { λ r. ⌜ ranReply r (arena (now (prev .exit)) (now (next .exit)) (now (generation .exit)) (now (payload .exit)) (now (header .exit))) (now (answers .exit))
+        ≡ run largestGeneration (arena (now (prev .entry)) (now (next .entry)) (now (generation .entry)) (now (payload .entry)) (now (header .entry)))
+        (now (commands .entry)) (now (answers .entry)) ⌝ }
+{
+    if commands.len() % COMMAND_WORDS != 0 {
+        return Ran::Incomplete;
+    }
+    if answers.len() < commands.len() / COMMAND_WORDS {
+        return Ran::TooFewAnswers;
+    }
+    apply_all(prev, next, generation, payload, header, commands, answers);
+    Ran::Done
+}

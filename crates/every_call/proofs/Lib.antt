@@ -1,0 +1,3 @@
+pub mod RefusalChangesNothing
+pub mod EveryCallKeeps
+pub mod RunIsFold

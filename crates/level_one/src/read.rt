@@ -1,0 +1,191 @@
+// Reading links and neighbours, as a host calls it.
+ghost use mathlib.Core.List.{[], _∷_};
+ghost use Rattle.definitions.specs.Arena.{arena, capacityLimit, largestGeneration};
+ghost use Rattle.definitions.specs.Reply.{reply};
+ghost use Rattle.definitions.specs.Read.{pointer};
+ghost use Rattle.definitions.specs.Calls.{Answers, GetLink, GetLinkNoGen, AreNeighbors};
+use chain_arena::Checked;
+use chain_arena::check;
+use chain_traits::GotLink;
+use chain_traits::GotLinkNoGen;
+use chain_traits::are_neighbors;
+use chain_traits::get_link;
+use chain_traits::get_link_no_gen;
+use ptr::Gen;
+use ptr::Ptr;
+use ptr::Slot;
+
+// A link with its neighbours' generations; slot 0 and generation 0 where there is no neighbour.
+#[repr(C)]
+pub struct LinkResult {
+    pub number: u32,
+    pub broken: u32,
+    pub prev: u32,
+    pub prev_generation: u32,
+    pub next: u32,
+    pub next_generation: u32,
+    pub payload: u32,
+}
+
+// A link; slot 0 where there is no neighbour.
+#[repr(C)]
+pub struct LinkNoGenResult {
+    pub number: u32,
+    pub broken: u32,
+    pub prev: u32,
+    pub next: u32,
+    pub payload: u32,
+}
+
+// Whether two links are neighbours: 1 or 0.
+#[repr(C)]
+pub struct NeighborsResult {
+    pub number: u32,
+    pub broken: u32,
+    pub yes: u32,
+}
+
+// The link at p and its neighbours with their generations.
+#[no_mangle]
+pub extern "C" fn chain_arena_get_link(
+    prev: &[u16],
+    next: &[u16],
+    generation: &[u32],
+    payload: &[u32],
+    header: &[u32],
+    p_slot: u16,
+    p_generation: u32,
+) -> LinkResult
+    ensures { λ r. ⌜ Answers capacityLimit largestGeneration (GetLink (pointer «p_slot» «p_generation»))
+        (arena (now (prev .entry)) (now (next .entry)) (now (generation .entry)) (now (payload .entry)) (now (header .entry))) [] (r .broken)
+        (reply (r .number) (r .prev ∷ r .«prev_generation» ∷ r .next ∷ r .«next_generation» ∷ r .payload ∷ [])
+        (arena (now (prev .entry)) (now (next .entry)) (now (generation .entry)) (now (payload .entry)) (now (header .entry))) []) ⌝ }
+{
+    let checked = check(prev, next, generation, payload, header);
+    let Checked::Passed = checked else {
+        return LinkResult {
+            number: checked.number(),
+            broken: checked.broken(),
+            prev: 0,
+            prev_generation: 0,
+            next: 0,
+            next_generation: 0,
+            payload: 0,
+        };
+    };
+    let p = Ptr {
+        inx: Slot(p_slot),
+        generation: Gen(p_generation),
+    };
+    match get_link(prev, next, generation, payload, header, p) {
+        GotLink::Stale => LinkResult {
+            number: 12,
+            broken: 0,
+            prev: 0,
+            prev_generation: 0,
+            next: 0,
+            next_generation: 0,
+            payload: 0,
+        },
+        GotLink::Found(l) => LinkResult {
+            number: 0,
+            broken: 0,
+            prev: l.prev.inx.0 as u32,
+            prev_generation: l.prev.generation.0,
+            next: l.next.inx.0 as u32,
+            next_generation: l.next.generation.0,
+            payload: l.t,
+        },
+    }
+}
+
+// The link at p.
+#[no_mangle]
+pub extern "C" fn chain_arena_get_link_no_gen(
+    prev: &[u16],
+    next: &[u16],
+    generation: &[u32],
+    payload: &[u32],
+    header: &[u32],
+    p_slot: u16,
+    p_generation: u32,
+) -> LinkNoGenResult
+    ensures { λ r. ⌜ Answers capacityLimit largestGeneration (GetLinkNoGen (pointer «p_slot» «p_generation»))
+        (arena (now (prev .entry)) (now (next .entry)) (now (generation .entry)) (now (payload .entry)) (now (header .entry))) [] (r .broken)
+        (reply (r .number) (r .prev ∷ r .next ∷ r .payload ∷ [])
+        (arena (now (prev .entry)) (now (next .entry)) (now (generation .entry)) (now (payload .entry)) (now (header .entry))) []) ⌝ }
+{
+    let checked = check(prev, next, generation, payload, header);
+    let Checked::Passed = checked else {
+        return LinkNoGenResult {
+            number: checked.number(),
+            broken: checked.broken(),
+            prev: 0,
+            next: 0,
+            payload: 0,
+        };
+    };
+    let p = Ptr {
+        inx: Slot(p_slot),
+        generation: Gen(p_generation),
+    };
+    match get_link_no_gen(prev, next, generation, payload, header, p) {
+        GotLinkNoGen::Stale => LinkNoGenResult {
+            number: 12,
+            broken: 0,
+            prev: 0,
+            next: 0,
+            payload: 0,
+        },
+        GotLinkNoGen::Found(l) => LinkNoGenResult {
+            number: 0,
+            broken: 0,
+            prev: l.prev.0 as u32,
+            next: l.next.0 as u32,
+            payload: l.t,
+        },
+    }
+}
+
+// Whether the next of p_prev is p_next; no where either is stale.
+#[no_mangle]
+pub extern "C" fn chain_arena_are_neighbors(
+    prev: &[u16],
+    next: &[u16],
+    generation: &[u32],
+    payload: &[u32],
+    header: &[u32],
+    p_prev_slot: u16,
+    p_prev_generation: u32,
+    p_next_slot: u16,
+    p_next_generation: u32,
+) -> NeighborsResult
+    ensures { λ r. ⌜ Answers capacityLimit largestGeneration
+        (AreNeighbors (pointer «p_prev_slot» «p_prev_generation») (pointer «p_next_slot» «p_next_generation»))
+        (arena (now (prev .entry)) (now (next .entry)) (now (generation .entry)) (now (payload .entry)) (now (header .entry))) [] (r .broken)
+        (reply (r .number) (r .yes ∷ [])
+        (arena (now (prev .entry)) (now (next .entry)) (now (generation .entry)) (now (payload .entry)) (now (header .entry))) []) ⌝ }
+{
+    let checked = check(prev, next, generation, payload, header);
+    let Checked::Passed = checked else {
+        return NeighborsResult {
+            number: checked.number(),
+            broken: checked.broken(),
+            yes: 0,
+        };
+    };
+    let p_prev = Ptr {
+        inx: Slot(p_prev_slot),
+        generation: Gen(p_prev_generation),
+    };
+    let p_next = Ptr {
+        inx: Slot(p_next_slot),
+        generation: Gen(p_next_generation),
+    };
+    let yes = are_neighbors(prev, next, generation, payload, header, p_prev, p_next);
+    NeighborsResult {
+        number: 0,
+        broken: 0,
+        yes: yes as u32,
+    }
+}

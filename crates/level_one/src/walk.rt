@@ -1,0 +1,142 @@
+// The walk along a chain, as a host calls it.
+ghost use mathlib.Core.List.{[], _∷_};
+ghost use Rattle.definitions.specs.Arena.{arena, capacityLimit, largestGeneration};
+ghost use Rattle.definitions.specs.Reply.{reply};
+ghost use Rattle.definitions.specs.Read.{pointer};
+ghost use Rattle.definitions.specs.Calls.{Answers, WalkStart, WalkStep};
+use chain_arena::Checked;
+use chain_arena::check;
+use chain_iterators::ChainPtrAdvancer;
+use chain_iterators::Started;
+use chain_iterators::advancer_chain;
+use ptr::Gen;
+use ptr::Ptr;
+use ptr::Slot;
+
+// The state of a walk that was started.
+#[repr(C)]
+pub struct WalkResult {
+    pub number: u32,
+    pub broken: u32,
+    pub start: u32,
+    pub position: u32,
+    pub direction: u32,
+    pub left: u32,
+}
+
+// What a step answers, slot 0 and generation 0 for none, and the next state.
+#[repr(C)]
+pub struct StepResult {
+    pub number: u32,
+    pub broken: u32,
+    pub slot: u32,
+    pub generation: u32,
+    pub start: u32,
+    pub position: u32,
+    pub direction: u32,
+    pub left: u32,
+}
+
+// Starts a walk at p.
+#[no_mangle]
+pub extern "C" fn chain_arena_walk_start(
+    prev: &[u16],
+    next: &[u16],
+    generation: &[u32],
+    payload: &[u32],
+    header: &[u32],
+    p_slot: u16,
+    p_generation: u32,
+) -> WalkResult
+    ensures { λ r. ⌜ Answers capacityLimit largestGeneration (WalkStart (pointer «p_slot» «p_generation»))
+        (arena (now (prev .entry)) (now (next .entry)) (now (generation .entry)) (now (payload .entry)) (now (header .entry))) [] (r .broken)
+        (reply (r .number) (r .start ∷ r .position ∷ r .direction ∷ r .left ∷ [])
+        (arena (now (prev .entry)) (now (next .entry)) (now (generation .entry)) (now (payload .entry)) (now (header .entry))) []) ⌝ }
+{
+    let checked = check(prev, next, generation, payload, header);
+    let Checked::Passed = checked else {
+        return WalkResult {
+            number: checked.number(),
+            broken: checked.broken(),
+            start: 0,
+            position: 0,
+            direction: 0,
+            left: 0,
+        };
+    };
+    let p = Ptr {
+        inx: Slot(p_slot),
+        generation: Gen(p_generation),
+    };
+    match advancer_chain(prev, next, generation, payload, header, p) {
+        Started::Stale => WalkResult {
+            number: 12,
+            broken: 0,
+            start: 0,
+            position: 0,
+            direction: 0,
+            left: 0,
+        },
+        Started::At(state) => WalkResult {
+            number: 0,
+            broken: 0,
+            start: state.init,
+            position: state.ptr,
+            direction: state.switch,
+            left: state.max_advances,
+        },
+    }
+}
+
+// One step of a walk: the link at the position, or none, and the next state. A refused step hands back its state as it was.
+#[no_mangle]
+pub extern "C" fn chain_arena_walk_step(
+    prev: &[u16],
+    next: &[u16],
+    generation: &[u32],
+    payload: &[u32],
+    header: &[u32],
+    start: u32,
+    position: u32,
+    direction: u32,
+    left: u32,
+) -> StepResult
+    ensures { λ r. ⌜ Answers capacityLimit largestGeneration WalkStep
+        (arena (now (prev .entry)) (now (next .entry)) (now (generation .entry)) (now (payload .entry)) (now (header .entry)))
+        (start ∷ position ∷ direction ∷ left ∷ []) (r .broken)
+        (reply (r .number) (r .slot ∷ r .generation ∷ [])
+        (arena (now (prev .entry)) (now (next .entry)) (now (generation .entry)) (now (payload .entry)) (now (header .entry)))
+        (r .start ∷ r .position ∷ r .direction ∷ r .left ∷ [])) ⌝ }
+{
+    let checked = check(prev, next, generation, payload, header);
+    let Checked::Passed = checked else {
+        return StepResult {
+            number: checked.number(),
+            broken: checked.broken(),
+            slot: 0,
+            generation: 0,
+            start: start,
+            position: position,
+            direction: direction,
+            left: left,
+        };
+    };
+    let walk = ChainPtrAdvancer {
+        init: start,
+        ptr: position,
+        switch: direction,
+        max_advances: left,
+    };
+    let advanced = walk.advance(prev, next, generation, payload, header);
+    let after = advanced.state;
+    StepResult {
+        number: 0,
+        broken: 0,
+        slot: advanced.slot,
+        generation: advanced.generation,
+        start: after.init,
+        position: after.ptr,
+        direction: after.switch,
+        left: after.max_advances,
+    }
+}
