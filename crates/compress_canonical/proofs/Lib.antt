@@ -5,3 +5,4 @@ pub mod Marks
 pub mod LinkInPlace
 pub mod ChainInPlace
 pub mod ChainsInPlace
+pub mod Stack

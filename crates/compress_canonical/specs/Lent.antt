@@ -2,7 +2,7 @@
 use Prim.Native.Nat.{ℕ}
 use mathlib.Core.Path.{_≡_}
 use mathlib.Core.List.{List}
-use lib.ListN.{length}
+use lib.ListN.{length, take, drop}
 
 pub record Lent : Type 0 where
   pub prev : List ℕ
@@ -19,3 +19,14 @@ pub record AsLong (c old : Lent) : Type 0 where
   pub next : length (c .next) ≡ length (old .next)
   pub payload : length (c .payload) ≡ length (old .payload)
   pub whereFrom : length (c .whereFrom) ≡ length (old .whereFrom)
+
+-- the columns up to slot n
+abbrev pub front : ℕ → Lent → Lent
+front n c = lent (take n (c .prev)) (take n (c .next)) (take n (c .payload)) (take n (c .whereFrom))
+
+-- columns whose words past slot n are the old ones
+pub record SamePast (n : ℕ) (c old : Lent) : Type 0 where
+  pub prev : drop n (c .prev) ≡ drop n (old .prev)
+  pub next : drop n (c .next) ≡ drop n (old .next)
+  pub payload : drop n (c .payload) ≡ drop n (old .payload)
+  pub whereFrom : drop n (c .whereFrom) ≡ drop n (old .whereFrom)

@@ -4,6 +4,7 @@ use Prim.Native.Nat.{ℕ, suc, _≤_, _<_}
 use mathlib.Core.Path.{_≡_}
 use mathlib.Core.Logic.{_⊎_}
 use mathlib.Core.List.{List}
+use lib.ListN.{length}
 use Rattle.definitions.specs.Columns.{at, slotsFrom}
 use Rattle.definitions.specs.Arena.{Arena, capacityLimit, stackLength}
 use Rattle.definitions.specs.Compress.{Laying, putAtI, lowestFrom, layChain, laidOut}
@@ -11,7 +12,7 @@ use Rattle.chains.proofs.Links.{DoublyLinked}
 use Rattle.demand3.proofs.Carried.{Room}
 use Rattle.demand3.proofs.Loops.{Between, Within}
 use Rattle.demand3.proofs.Search.{FreeBetween}
-use Rattle.compress_canonical.specs.Lent.{Lent}
+use Rattle.compress_canonical.specs.Lent.{Lent, lent, front, SamePast}
 use Rattle.compress_canonical.specs.Held.{Held}
 
 -- what laying out needs of an arena that passed the check
@@ -56,3 +57,14 @@ pub record Larger (x y r : ℕ) : Type 0 where
   pub left : x ≤ r
   pub right : y ≤ r
   pub one : (r ≡ x) ⊎ (r ≡ y)
+
+-- the columns of the arena a can be laid out together with a where-from column
+pub record Stacked (a : Arena) (whereFrom : List ℕ) : Type 0 where
+  pub header : 0 < length (a .header)
+  pub layable : Layable a
+  pub room : stackLength a ≤ length whereFrom
+
+-- the links of a stand laid out in the columns, and words past the stack are the old ones
+pub record LaidIn (a : Arena) (whereFrom : List ℕ) (c : Lent) : Type 0 where
+  pub laid : AllLaid a (laidOut a) (front (stackLength a) c)
+  pub rest : SamePast (stackLength a) c (lent (a .prev) (a .next) (a .payload) whereFrom)

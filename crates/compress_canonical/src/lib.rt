@@ -6,12 +6,12 @@ ghost use Prim.Native.Nat.{ℕ, _+_, _≤_, _<_};
 ghost use lib.Dec.{eqb};
 ghost use lib.ListN.{length};
 ghost use Rattle.definitions.specs.Columns.{at, put};
-ghost use Rattle.definitions.specs.Arena.{Arena, capacityLimit, stackLength};
+ghost use Rattle.definitions.specs.Arena.{Arena, arena, capacityLimit, stackLength};
 ghost use Rattle.definitions.specs.Compress.{Laying, exchangeWords, lowestFrom, startOf, layChain, laidOut};
 ghost use Rattle.compress_canonical.specs.Lent.{lent};
 ghost use Rattle.compress_canonical.specs.Exchange.{Inside, Around, InReach, Exchanged};
 ghost use Rattle.compress_canonical.specs.Held.{Occupied, Rooted, Marked};
-ghost use Rattle.compress_canonical.specs.Steps.{InChain, LinkLaid, ChainLaid, Ready, AllLaid, Larger};
+ghost use Rattle.compress_canonical.specs.Steps.{InChain, LinkLaid, ChainLaid, Ready, AllLaid, Larger, Stacked, LaidIn};
 use base_removal::put_at;
 use chain_traits::slot_at;
 use ptr::Slot;
@@ -257,4 +257,22 @@ fn mark_links(where_from: &mut [u16], generation: &[u32])
         where_from[s] = occupant(generation[s], s);
         s += 1;
     }
+}
+
+// Lays out the links of an arena: they stand in slots 1, 2, and so on, chain after chain in next order, and the where-from column says who is in a slot.
+fn lay_out(
+    prev: &mut [u16],
+    next: &mut [u16],
+    generation: &[u32],
+    payload: &mut [u32],
+    header: &[u32],
+    where_from: &mut [u16],
+)
+    requires { ⌜ Stacked (arena (now prev) (now next) (now generation) (now payload) (now header)) (now «where_from») ⌝ }
+    ensures { λ _. ⌜ LaidIn (arena (now (prev .entry)) (now (next .entry)) (now (generation .entry)) (now (payload .entry)) (now (header .entry))) (now («where_from» .entry))
+        (lent (now (prev .exit)) (now (next .exit)) (now (payload .exit)) (now («where_from» .exit))) ⌝ }
+{
+    let n = header[0] as usize;
+    mark_links(&mut where_from[..n], &generation[..n]);
+    lay_chains(&mut prev[..n], &mut next[..n], &mut payload[..n], &mut where_from[..n]);
 }
