@@ -6,3 +6,5 @@ pub mod LinkInPlace
 pub mod ChainInPlace
 pub mod ChainsInPlace
 pub mod Stack
+pub mod Shrinks
+pub mod Canonical

@@ -2,3 +2,5 @@ pub mod Lent
 pub mod Exchange
 pub mod Held
 pub mod Steps
+pub mod Answers
+pub mod Shrunk

@@ -1,20 +1,46 @@
 // Canonical compression (`compress_canonical` of chain/impl_chain_arena_trait.rs) in the lent columns, with no memory beyond them.
 ghost use mathlib.Core.Path.{_≡_};
 ghost use mathlib.Core.Bool.{cond};
-ghost use mathlib.Core.List.{List};
+ghost use mathlib.Core.List.{List, []};
 ghost use Prim.Native.Nat.{ℕ, _+_, _≤_, _<_};
 ghost use lib.Dec.{eqb};
 ghost use lib.ListN.{length};
 ghost use Rattle.definitions.specs.Columns.{at, put};
-ghost use Rattle.definitions.specs.Arena.{Arena, arena, capacityLimit, stackLength};
-ghost use Rattle.definitions.specs.Compress.{Laying, exchangeWords, lowestFrom, startOf, layChain, laidOut};
+ghost use Rattle.definitions.specs.Arena.{Arena, arena, capacityLimit, largestGeneration, stackLength};
+ghost use Rattle.definitions.specs.Check.{verdict};
+ghost use Rattle.definitions.specs.Reply.{reply};
+ghost use Rattle.definitions.specs.Compress.{Laying, exchangeWords, lowestFrom, startOf, layChain, laidOut, compressCanonical};
+ghost use Rattle.compress_canonical.specs.Answers.{compressedNumber};
 ghost use Rattle.compress_canonical.specs.Lent.{lent};
 ghost use Rattle.compress_canonical.specs.Exchange.{Inside, Around, InReach, Exchanged};
 ghost use Rattle.compress_canonical.specs.Held.{Occupied, Rooted, Marked};
 ghost use Rattle.compress_canonical.specs.Steps.{InChain, LinkLaid, ChainLaid, Ready, AllLaid, Larger, Stacked, LaidIn};
+ghost use Rattle.compress_canonical.specs.Shrunk.{Shrinkable, shrunk};
+use base_freelist::pop_slots;
 use base_removal::put_at;
 use chain_traits::slot_at;
+use compress_with::fill_generation;
+use compress_with::renew_generation;
+use ptr::InvalidationOption;
 use ptr::Slot;
+
+// What became of a compression.
+pub enum Compressed {
+    Done(InvalidationOption),
+    WrongLength,
+}
+
+impl Compressed {
+    // Document 01's number for the answer.
+    pub fn number(self) -> u32
+        ensures { λ r. ⌜ r ≡ compressedNumber self ⌝ }
+    {
+        match self {
+            Compressed::Done(overflow) => overflow.number(),
+            Compressed::WrongLength => 14,
+        }
+    }
+}
 
 // The neighbours of the two that exchange slots: of the link that is moved, and of what is where it goes.
 pub struct Neighbours {
@@ -274,5 +300,61 @@ fn lay_out(
 {
     let n = header[0] as usize;
     mark_links(&mut where_from[..n], &generation[..n]);
-    lay_chains(&mut prev[..n], &mut next[..n], &mut payload[..n], &mut where_from[..n]);
+    lay_chains(
+        &mut prev[..n],
+        &mut next[..n],
+        &mut payload[..n],
+        &mut where_from[..n],
+    );
+}
+
+// Keeps as many slots as there are links, in the current generation, and pops the others. No slot is free then, and the root goes.
+fn shrink(
+    prev: &mut [u16],
+    next: &mut [u16],
+    generation: &mut [u32],
+    payload: &mut [u32],
+    header: &mut [u32],
+)
+    requires { ⌜ Shrinkable (arena (now prev) (now next) (now generation) (now payload) (now header)) ⌝ }
+    ensures { λ _. ⌜ arena (now (prev .exit)) (now (next .exit)) (now (generation .exit)) (now (payload .exit)) (now (header .exit))
+        ≡ shrunk (arena (now (prev .entry)) (now (next .entry)) (now (generation .entry)) (now (payload .entry)) (now (header .entry))) ⌝ }
+{
+    let n = header[0] as usize;
+    let links = header[1];
+    let m = links as usize;
+    fill_generation(&mut *generation, m, header[3]);
+    pop_slots(prev, next, generation, payload, m, n);
+    header[2] = 0;
+    header[0] = links;
+}
+
+// Canonical compression of an arena that passed the check: chain after chain, each on consecutive slots in next order.
+pub fn compress_canonical(
+    prev: &mut [u16],
+    next: &mut [u16],
+    generation: &mut [u32],
+    payload: &mut [u32],
+    header: &mut [u32],
+    reset: bool,
+    where_from: &mut [u16],
+) -> Compressed
+    requires { ⌜ verdict capacityLimit (arena (now prev) (now next) (now generation) (now payload) (now header)) ≡ 0 ⌝ }
+    ensures { λ r. ⌜ reply (compressedNumber r) [] (arena (now (prev .exit)) (now (next .exit)) (now (generation .exit)) (now (payload .exit)) (now (header .exit))) (now («where_from» .exit))
+        ≡ compressCanonical largestGeneration reset (arena (now (prev .entry)) (now (next .entry)) (now (generation .entry)) (now (payload .entry)) (now (header .entry))) (now («where_from» .entry)) ⌝ }
+{
+    if where_from.len() != prev.len() {
+        return Compressed::WrongLength;
+    }
+    lay_out(
+        &mut *prev,
+        &mut *next,
+        &*generation,
+        &mut *payload,
+        &*header,
+        where_from,
+    );
+    let renewed = renew_generation(&mut *header, reset);
+    shrink(prev, next, generation, payload, header);
+    Compressed::Done(renewed)
 }
