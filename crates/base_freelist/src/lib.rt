@@ -21,6 +21,18 @@ pub enum GenerationSet {
     BelowTwo,
 }
 
+impl GenerationSet {
+    // Document 01's number for the answer.
+    pub fn number(self) -> u32
+        ensures { λ r. ⌜ r ≡ generationSetNumber self ⌝ }
+    {
+        match self {
+            GenerationSet::Done => 0,
+            GenerationSet::BelowTwo => 15,
+        }
+    }
+}
+
 // Makes g the current generation of the arena with this header: '`set_generation` accepts 1 in the crate; here it refuses'.
 pub fn set_generation(header: &mut [u32], g: Gen) -> GenerationSet
     requires { ⌜ length (now header) ≡ headerWords ⌝ }

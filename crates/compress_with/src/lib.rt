@@ -24,6 +24,18 @@ pub enum Compressed {
     NoRoom,
 }
 
+impl Compressed {
+    // Document 01's number for the answer.
+    pub fn number(self) -> u32
+        ensures { λ r. ⌜ r ≡ compressedNumber self ⌝ }
+    {
+        match self {
+            Compressed::Done(overflow) => overflow.number(),
+            Compressed::NoRoom => 14,
+        }
+    }
+}
+
 // 'Compression first raises the generation and answers whether it overflowed, or sets it to 2 on reset, which is never an overflow.'
 pub fn renew_generation(header: &mut [u32], reset: bool) -> InvalidationOption
     requires { ⌜ length (now header) ≡ headerWords ⌝ }

@@ -1,0 +1,2 @@
+// Level Three: both compressions, as a host calls them.
+pub mod order_preserving;
