@@ -14,7 +14,7 @@ use Rattle.definitions.specs.Check.{WellFormed}
 use Rattle.definitions.specs.Columns.{slotsFrom, written}
 use Rattle.definitions.specs.Reply.{reply}
 use Rattle.definitions.specs.Run.{Command, commandAt, commandWords, applied, answersOf, run}
-use Rattle.kept.proofs.RunIsFold.{run-goes-on, answers-go-on, an-answer-each}
+use Rattle.kept.proofs.Runs.{run-goes-on, answers-go-on, an-answer-each}
 use Rattle.kept.proofs.Runs.{applied-keeps}
 use Rattle.chain_run.specs.Commands.{Applied, AllApplied}
 
