@@ -1,17 +1,19 @@
 -- 'drain removes exactly the links of p's chain, no other link's payload or neighbour changes, and its report lists them in walk order':
--- `drain-takes-the-chain`. The walk from p lists the chain that p is on, each link once; a chain holds all neighbours of its links, so that no link
--- outside it names one that is removed. Assumes nothing.
+-- `drain-takes-the-chain`, and of the public call `done-drain-takes-the-chain`. The walk from p lists the chain that p is on, each link once; a chain
+-- holds all neighbours of its links, so that no link outside it names one that is removed. Assumes nothing.
 use Prim.Native.Nat.{ℕ, _+_, _*_, _≤_, _<_}
 use mathlib.Core.Path.{_≡_, refl, sym, _∙_}
 use mathlib.Core.Bool.{true, false}
 use mathlib.Core.List.{List, [], _∷_, _++_, reverse}
 use native.Mathlib.Omega.{arith}
 use lib.ListN.{length, drop}
-use borrow.Author.Tests.{le-ltb}
+use lib.Dec.{eqb, ltb}
+use borrow.Author.Tests.{le-ltb, ltb-false, eqb-true, eqb-false}
 use Rattle.definitions.specs.Columns.{at, count, written}
 use Rattle.definitions.specs.Arena.{Arena, isLink}
 use Rattle.definitions.specs.Chains.{Chain, IsChain}
-use Rattle.definitions.specs.Check.{WellFormed}
+use Rattle.definitions.specs.Calls.{Drain, accepted, replyTo}
+use Rattle.definitions.specs.Check.{WellFormed, verdict}
 use Rattle.definitions.specs.Read.{Pointer, stale}
 use Rattle.definitions.specs.Remove.{removedAll, drainItems, overflowItem, drain}
 use Rattle.definitions.specs.Reply.{reply}
@@ -19,10 +21,12 @@ use Rattle.definitions.specs.Walk.{walkFrom}
 use Rattle.definitions.proofs.Count.{In, in-here, in-right}
 use Rattle.definitions.proofs.Pointers.{fresh-link}
 use Rattle.definitions.proofs.Slots.{count-append}
+use Rattle.definitions.proofs.Tests.{by-test}
 use Rattle.definitions.proofs.Written.{written-rest}
 use Rattle.chains.proofs.Links.{DoublyLinked, well-formed-linked, few-links, link-nonzero}
 use Rattle.chains.proofs.OneChain.{chain-run, chain-links, run-next, run-prev, one-chain, like-count}
 use Rattle.kept.proofs.Drain.{removedAll-keeps}
+use Rattle.well_formed.proofs.WellFormed.{well-formed-if-passes}
 use Rattle.walks.specs.WalkOrder.{WalkOrder}
 use Rattle.walks.proofs.Walks.{walk-gives-chain, count-reverse}
 use Rattle.drains.specs.Drainable.{Drainable}
@@ -75,9 +79,9 @@ module _ (limit top : ℕ) (enough : limit < top) (a : Arena) (ok : WellFormed l
   ss = walkFrom a (p .slot)
 
   module _ (room : 5 * length ss ≤ length report) where
-    accepted : drain top a p report ≡ reply 0 (length ss ∷ overflowItem top a ss 1 ∷ []) (removedAll top a ss) (written (drainItems top a ss) report)
+    replied : drain top a p report ≡ reply 0 (length ss ∷ overflowItem top a ss 1 ∷ []) (removedAll top a ss) (written (drainItems top a ss) report)
     unfolding drain
-    accepted = rw (fresh, le-ltb (length report) (5 * length ss) room) refl
+    replied = rw (fresh, le-ltb (length report) (5 * length ss) room) refl
 
     pub drain-takes-the-chain : DrainsChain limit top a (p .slot) ss report (drain top a p report)
     drain-takes-the-chain =
@@ -86,7 +90,7 @@ module _ (limit top : ℕ) (enough : limit < top) (a : Arena) (ok : WellFormed l
         let can : Drainable limit a ss = record { arena = ok; links = walks .links; once = walks .once } in
         let few : length ss < top = omega (arith, few-links a ss (walks .once) (walks .links), ok .within, ok .small) in
         let words = drainItems top a ss in
-        rw accepted
+        rw replied
         (record {
           done = refl;
           kept = removedAll-keeps limit top a ok ss (walks .once) (walks .links);
@@ -106,3 +110,23 @@ module _ (limit top : ℕ) (enough : limit < top) (a : Arena) (ok : WellFormed l
           overflow = λ k h over. overflow-named top a (ok .header) ss k 1 few h over ∙ omega arith;
           no-overflow = overflow-none top a ss 1;
         })
+
+-- a drain that was not refused: the pointer was not stale, and the report had room
+drain-accepts : (top : ℕ) (a : Arena) (p : Pointer) (report : List ℕ) → drain top a p report .number ≡ 0 → (stale a p ≡ false) × (5 * length (walkFrom a (p .slot)) ≤ length report)
+unfolding drain
+drain-accepts top a p report e =
+    by-test (stale a p)
+    (λ s. absurd (omega (arith, rw s at e)))
+    (λ s. by-test (ltb (length report) (5 * length (walkFrom a (p .slot)))) (λ t. absurd (omega (arith, rw (s, t) at e))) (λ t. (s, ltb-false (length report) (5 * length (walkFrom a (p .slot))) t)))
+
+-- so it is whenever the public call answers 0, on whatever arena
+pub done-drain-takes-the-chain :
+    (limit top : ℕ) → limit < top → (a : Arena) (p : Pointer) (report : List ℕ) → replyTo limit top (Drain p) a report .number ≡ 0
+    → DrainsChain limit top a (p .slot) (walkFrom a (p .slot)) report (replyTo limit top (Drain p) a report)
+unfolding replyTo accepted
+done-drain-takes-the-chain limit top enough a p report e =
+    by-test (eqb (verdict limit a) 0)
+    (λ v.
+    let did = drain-accepts top a p report (rw v at e) in
+    rw v (drain-takes-the-chain limit top enough a (well-formed-if-passes limit a (eqb-true (verdict limit a) 0 v)) p (did .0) report (did .1)))
+    (λ v. absurd (eqb-false (verdict limit a) 0 v (rw v at e)))
