@@ -1,10 +1,10 @@
 -- A run is the fold of its commands. 'Each answer word is 0 done, 100 done with generation overflow, 12, 13, or 16 for another code. A refused command
--- changes nothing and the run goes on.' `reply-of-a-run` says what an accepted run replies, `run-goes-on` that what comes after some commands is a run
--- on the arena that they left, `one-command` what a command answers and that a refused one changes nothing. Assumes nothing.
-use Prim.Native.Nat.{ℕ, suc, _≤_, _/_, _%_}
-use mathlib.Core.Path.{_≡_, refl, ap}
+-- changes nothing and the run goes on.' `reply-of-a-run` says what an accepted run replies, `run-goes-on` (crate `kept`) that what comes after some
+-- commands is a run on the arena that they left, `one-command` what a command answers and that a refused one changes nothing. Assumes nothing.
+use Prim.Native.Nat.{ℕ, _≤_, _/_, _%_}
+use mathlib.Core.Path.{_≡_, refl}
 use mathlib.Core.Bool.{Bool, true, false, cond}
-use mathlib.Core.List.{List, [], _∷_, _++_}
+use mathlib.Core.List.{List, []}
 use lib.ListN.{length}
 use borrow.Author.Tests.{eq-eqb, le-ltb}
 use Rattle.definitions.specs.Columns.{written}
@@ -36,25 +36,7 @@ one-command top a c = record {
   refused = refused-command top a c .arena;
 }
 
--- ---- all commands
-
-module _ (top : ℕ) where
-  -- some commands, and then others
-  pub run-goes-on : (a : Arena) (cs ds : List Command) → applied top a (cs ++ ds) ≡ applied top (applied top a cs) ds
-  unfolding applied
-  run-goes-on a [] ds = refl
-  run-goes-on a (c ∷ cs) ds = run-goes-on (apply top a c .arena) cs ds
-
-  pub answers-go-on : (a : Arena) (cs ds : List Command) → answersOf top a (cs ++ ds) ≡ answersOf top a cs ++ answersOf top (applied top a cs) ds
-  unfolding applied answersOf
-  answers-go-on a [] ds = refl
-  answers-go-on a (c ∷ cs) ds = ap (λ (l : List ℕ). apply top a c .number ∷ l) (answers-go-on (apply top a c .arena) cs ds)
-
-  -- one answer for each command
-  pub an-answer-each : (a : Arena) (cs : List Command) → length (answersOf top a cs) ≡ length cs
-  unfolding answersOf
-  an-answer-each a [] = refl
-  an-answer-each a (c ∷ cs) = ap suc (an-answer-each (apply top a c .arena) cs)
+-- ---- all commands: what comes after some commands is a run on the arena that they left (`kept.proofs.Runs`)
 
 -- a run on an arena that passes the check, with whole commands and room for their answers
 pub reply-of-a-run : (limit top : ℕ) (a : Arena) (ws answers : List ℕ) → verdict limit a ≡ 0 → length ws % commandWords ≡ 0 → length ws / commandWords ≤ length answers

@@ -1,0 +1,115 @@
+// A case: the call's code, the columns with their header, the call's arguments and the slice that it lends, as the numbers of a line.
+ghost use Prim.Native.Nat.{_≤_};
+ghost use Rattle.io.specs.Counts.{Counts};
+use crate::text::write_slots;
+use crate::text::write_words;
+
+// The word at a place, 0 past the end.
+pub fn word_at(words: &[u32], i: usize) -> u32 {
+    if i < words.len() { words[i] } else { 0 }
+}
+
+// The slot at a place, 0 past the end and for a word that is no slot.
+pub fn slot_at(words: &[u32], i: usize) -> u16 {
+    let word = word_at(words, i);
+    if word <= 65535 { word as u16 } else { 0 }
+}
+
+// So many words from a place on, none if there are fewer.
+fn part(words: &[u32], from: usize, count: usize) -> &[u32] {
+    if from <= words.len() {
+        if count <= words.len() - from {
+            return &words[from..from + count];
+        }
+    }
+    &words[..0]
+}
+
+// A column of the case: so many slots from a place on.
+fn slots(case: &[u32], from: usize, count: usize) -> [u16; 12]
+    requires { ⌜ (from ≤ 192) × (count ≤ 12) ⌝ }
+    ensures { λ r. ⌜ Counts count r ⌝ }
+{
+    let mut column = [0u16; 12];
+    for i in 0..count {
+        column[i] = slot_at(case, from + i);
+    }
+    column
+}
+
+// A column of the case: so many words from a place on.
+fn words(case: &[u32], from: usize, count: usize) -> [u32; 64]
+    requires { ⌜ (from ≤ 192) × (count ≤ 64) ⌝ }
+    ensures { λ r. ⌜ Counts count r ⌝ }
+{
+    let mut column = [0u32; 64];
+    for i in 0..count {
+        column[i] = word_at(case, from + i);
+    }
+    column
+}
+
+// Replays a case of c slots, n argument words and m lent words on a copy of its columns; false if no call has its code.
+fn replay_copy(case: &[u32], c: usize, n: usize, m: usize) -> bool
+    requires { ⌜ (c ≤ 12) × (n ≤ 64) × (m ≤ 64) ⌝ }
+{
+    let mut prev = slots(case, 2, c);
+    let mut next = slots(case, 2 + c, c);
+    let mut generation = words(case, 2 + 2 * c, c);
+    let mut payload = words(case, 2 + 3 * c, c);
+    let mut header = words(case, 2 + 4 * c, 4);
+    let mut lent = words(case, 8 + 4 * c + n, m);
+    replay(
+        word_at(case, 0),
+        &mut prev[..c],
+        &mut next[..c],
+        &mut generation[..c],
+        &mut payload[..c],
+        &mut header[..4],
+        part(case, 7 + 4 * c, n),
+        &mut lent[..m],
+    )
+}
+
+// Replays a case; false if the numbers are none.
+pub fn replay_case(case: &[u32]) -> bool {
+    let c = word_at(case, 1) as usize;
+    if 12 < c {
+        return false;
+    }
+    let n = word_at(case, 6 + 4 * c) as usize;
+    if 64 < n {
+        return false;
+    }
+    let m = word_at(case, 7 + 4 * c + n) as usize;
+    if 64 < m {
+        return false;
+    }
+    if case.len() != 8 + 4 * c + n + m {
+        return false;
+    }
+    replay_copy(case, c, n, m)
+}
+
+// Makes the call of a code and writes its reply, then what the columns and the header hold afterwards; false if no call has the code.
+fn replay(
+    code: u32,
+    prev: &mut [u16],
+    next: &mut [u16],
+    generation: &mut [u32],
+    payload: &mut [u32],
+    header: &mut [u32],
+    args: &[u32],
+    lent: &mut [u32],
+) -> bool {
+    if !crate::read::call(code, prev, next, generation, payload, header, args) {
+        return false;
+    }
+    write_slots(prev);
+    write_slots(next);
+    write_words(generation);
+    write_words(payload);
+    write_words(header);
+    io::write_all(1, b"\n");
+    true
+}
