@@ -46,10 +46,10 @@ pub fn renew_generation(header: &mut [u32], reset: bool) -> InvalidationOption
         header[3] = two.0;
         return InvalidationOption::Success;
     }
-    if header[1] == 0 {
-        return InvalidationOption::Success;
+    if header[1] != 0 {
+        return inc_generation(header);
     }
-    inc_generation(header)
+    InvalidationOption::Success
 }
 
 // Writes the four words of a link behind those of count links: 'old slot, old generation, new slot, new generation'.
