@@ -1,6 +1,6 @@
 -- Laws of removal: what the code's stores leave is what the definitions say. Assumes nothing.
 use Prim.Native.Nat.{ℕ, _-_, _≤_, _<_}
-use mathlib.Core.Bool.{cond}
+use mathlib.Core.Bool.{Bool, cond}
 use mathlib.Core.List.{List}
 use mathlib.Core.Path.{_≡_, refl, _∙_}
 use native.Mathlib.Omega.{arith}
@@ -12,7 +12,7 @@ use Rattle.definitions.proofs.Columns.{at-place, put-place}
 use Rattle.definitions.specs.Arena.{Arena, arena, stackLength, root, withStackLength, withRoot, withCurrent}
 use Rattle.definitions.specs.Columns.{at, put}
 use Rattle.definitions.specs.Remove.{joined, vacated, removed}
-use Rattle.base_removal.specs.Removal.{fewer}
+use Rattle.base_removal.specs.Removal.{fewer, Counted, TakenOut}
 
 -- the code's place s - 1 is slot s
 pub place-within : (xs : List ℕ) (s m : ℕ) → 0 < s → at xs s ≤ m → getD xs (s - 1) 0 ≤ m
@@ -46,14 +46,19 @@ module _ (top : ℕ) (h left : List ℕ) (e : left ≡ fewer top h) where
   pub root-stays : getD left 2 0 ≡ getD h 2 0
   root-stays = uncounted 2 (λ z. omega arith) (λ z. omega arith)
 
--- the neighbours joined, the removal counted, and the slot popped or freed: the slot is removed
-module _ (top : ℕ) (a : Arena) (s : ℕ) (qs ms h : List ℕ) (j : arena qs ms (a .generation) (a .payload) (a .header) ≡ joined a s) (e : h ≡ fewer top (a .header)) where
-  pub removed-last : s ≡ stackLength a → vacated (arena qs ms (a .generation) (a .payload) h) s 0 (withStackLength (s - 1) h) ≡ removed top a s
+-- the neighbours joined, the removal counted, and the slot popped or freed: the slot is taken out
+module _ (top : ℕ) (a : Arena) (s : ℕ) (qs ms h : List ℕ) (over : Bool) (j : arena qs ms (a .generation) (a .payload) (a .header) ≡ joined a s) (k : Counted top (a .header) h over)
+    (left : Arena) where
+  removed-last : s ≡ stackLength a → vacated (arena qs ms (a .generation) (a .payload) h) s 0 (withStackLength (s - 1) h) ≡ removed top a s
   unfolding removed vacated fewer
-  removed-last l = rw (eq-eqb s (stackLength a) l, ← j, e, ← l) refl
+  removed-last l = rw (eq-eqb s (stackLength a) l, ← j, k .header, ← l) refl
 
-  pub removed-other :
-      (s ≡ stackLength a → ⊥)
-      → vacated (arena qs ms (a .generation) (a .payload) h) s (cond (eqb (getD h 2 0) 0) s (getD h 2 0)) (withRoot s h) ≡ removed top a s
+  removed-other : (s ≡ stackLength a → ⊥) → vacated (arena qs ms (a .generation) (a .payload) h) s (cond (eqb (getD h 2 0) 0) s (getD h 2 0)) (withRoot s h) ≡ removed top a s
   unfolding removed vacated fewer
-  removed-other l = rw (ne-eqb s (stackLength a) l, ← j, root-stays top (a .header) h e, e) refl
+  removed-other l = rw (ne-eqb s (stackLength a) l, ← j, root-stays top (a .header) h (k .header), k .header) refl
+
+  pub last-out : s ≡ stackLength a → left ≡ vacated (arena qs ms (a .generation) (a .payload) h) s 0 (withStackLength (s - 1) h) → TakenOut top a s left over
+  last-out l e = record { arena = e ∙ removed-last l; overflowed = k .overflowed }
+
+  pub other-out : (s ≡ stackLength a → ⊥) → left ≡ vacated (arena qs ms (a .generation) (a .payload) h) s (cond (eqb (getD h 2 0) 0) s (getD h 2 0)) (withRoot s h) → TakenOut top a s left over
+  other-out l e = record { arena = e ∙ removed-other l; overflowed = k .overflowed }

@@ -12,14 +12,21 @@ ghost use Rattle.base_removal.specs.Removal.{Joinable, Stands, Counted, 
 use ptr::Gen;
 use ptr::Slot;
 
-// Writes v at slot s of a link column. Slot 0 is none, and nothing is written there.
+// Writes v at slot s of a link column.
+pub fn set_at(column: &mut [u16], s: Slot, v: Slot)
+    requires { ⌜ (0 < s .0) × (s .0 ≤ length (now column)) ⌝ }
+    ensures { λ _. ⌜ now (column .exit) ≡ put (now (column .entry)) (s .0) (v .0) ⌝ }
+{
+    column[s.0 as usize - 1] = v.0;
+}
+
+// Writes v at slot s of a link column, if there is such a slot: 0 is none.
 pub fn put_at(column: &mut [u16], s: Slot, v: Slot)
     requires { ⌜ s .0 ≤ length (now column) ⌝ }
     ensures { λ _. ⌜ now (column .exit) ≡ put (now (column .entry)) (s .0) (v .0) ⌝ }
 {
-    let at = s.0 as usize;
-    if at != 0 {
-        column[at - 1] = v.0;
+    if s.0 != 0 {
+        set_at(column, s, v);
     }
 }
 

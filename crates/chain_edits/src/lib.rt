@@ -1,7 +1,7 @@
 // Connect, break, exchange and remove (chain/impl_chain_arena_trait.rs) on an arena that passed the check.
 ghost use mathlib.Core.Path.{_≡_};
 ghost use mathlib.Core.List.{[]};
-ghost use Prim.Native.Nat.{_≤_};
+ghost use Prim.Native.Nat.{_≤_, _<_};
 ghost use lib.ListN.{length};
 ghost use Rattle.definitions.specs.Columns.{put};
 ghost use Rattle.definitions.specs.Arena.{arena, capacityLimit, largestGeneration};
@@ -11,7 +11,7 @@ ghost use Rattle.definitions.specs.Remove.{remove};
 ghost use Rattle.links.specs.Links.{removalReply};
 ghost use Rattle.chain_traits.specs.Read.{pointerOf};
 ghost use Rattle.chain_edits.specs.Edits.{editedNumber, editedReply};
-use base_removal::put_at;
+use base_removal::set_at;
 use base_removal::take_out;
 use chain_traits::GotLinkNoGen;
 use chain_traits::get_link_no_gen;
@@ -71,8 +71,8 @@ pub fn connect(
     if slot_at(&*prev, p_next.inx).0 != 0 {
         return Edited::Misplaced;
     }
-    put_at(next, p_prev.inx, p_next.inx);
-    put_at(prev, p_next.inx, p_prev.inx);
+    set_at(next, p_prev.inx, p_next.inx);
+    set_at(prev, p_next.inx, p_prev.inx);
     Edited::Done
 }
 
@@ -97,8 +97,8 @@ pub fn break_prev(
     if before.0 == 0 {
         return Edited::Misplaced;
     }
-    put_at(next, before, Slot(0));
-    put_at(prev, p.inx, Slot(0));
+    set_at(next, before, Slot(0));
+    set_at(prev, p.inx, Slot(0));
     Edited::Done
 }
 
@@ -123,18 +123,18 @@ pub fn break_next(
     if after.0 == 0 {
         return Edited::Misplaced;
     }
-    put_at(next, p.inx, Slot(0));
-    put_at(prev, after, Slot(0));
+    set_at(next, p.inx, Slot(0));
+    set_at(prev, after, Slot(0));
     Edited::Done
 }
 
 // Writes v at slot s of a link column, then w at slot t.
-pub fn put_two(column: &mut [u16], s: Slot, v: Slot, t: Slot, w: Slot)
-    requires { ⌜ (s .0 ≤ length (now column)) × (t .0 ≤ length (now column)) ⌝ }
+pub fn set_two(column: &mut [u16], s: Slot, v: Slot, t: Slot, w: Slot)
+    requires { ⌜ (0 < s .0) × (s .0 ≤ length (now column)) × (0 < t .0) × (t .0 ≤ length (now column)) ⌝ }
     ensures { λ _. ⌜ now (column .exit) ≡ put (put (now (column .entry)) (s .0) (v .0)) (t .0) (w .0) ⌝ }
 {
-    put_at(&mut *column, s, v);
-    put_at(column, t, w);
+    set_at(&mut *column, s, v);
+    set_at(column, t, w);
 }
 
 // Gives each of p0 and p1 the other's next.
@@ -167,8 +167,8 @@ pub fn exchange_next(
     if d1.0 == 0 {
         return Edited::Misplaced;
     }
-    put_two(next, p0.inx, d1, p1.inx, d0);
-    put_two(prev, d0, p1.inx, d1, p0.inx);
+    set_two(next, p0.inx, d1, p1.inx, d0);
+    set_two(prev, d0, p1.inx, d1, p0.inx);
     Edited::Done
 }
 

@@ -104,13 +104,20 @@ pub fn apply(
     let code = c.code;
     let p = first.narrow();
     let q = second.narrow();
-    match code {
-        1 => connect(prev, next, &*generation, &*payload, &*header, p, q).number(),
-        2 => break_prev(prev, next, &*generation, &*payload, &*header, p).number(),
-        3 => break_next(prev, next, &*generation, &*payload, &*header, p).number(),
-        4 => exchange_next(prev, next, &*generation, &*payload, &*header, p, q).number(),
-        5 => removal_number(remove(prev, next, generation, payload, header, p)),
-        _ => 16,
+    // In two halves, since a jump through a table of all codes costs more than the edits do.
+    if code < 3 {
+        match code {
+            1 => connect(prev, next, &*generation, &*payload, &*header, p, q).number(),
+            2 => break_prev(prev, next, &*generation, &*payload, &*header, p).number(),
+            _ => 16,
+        }
+    } else {
+        match code {
+            3 => break_next(prev, next, &*generation, &*payload, &*header, p).number(),
+            4 => exchange_next(prev, next, &*generation, &*payload, &*header, p, q).number(),
+            5 => removal_number(remove(prev, next, generation, payload, header, p)),
+            _ => 16,
+        }
     }
 }
 

@@ -1,2 +1,3 @@
 // Level Three: both compressions, as a host calls them.
+pub mod canonical;
 pub mod order_preserving;

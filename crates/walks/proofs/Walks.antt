@@ -54,7 +54,7 @@ unfolding count
 count-reversed s [] acc = sym (zero-add _)
 count-reversed s (x ∷ xs) acc = omega (arith, count-reversed s xs (x ∷ acc))
 
-count-reverse : (s : ℕ) (xs : List ℕ) → count s (reverse xs) ≡ count s xs
+pub count-reverse : (s : ℕ) (xs : List ℕ) → count s (reverse xs) ≡ count s xs
 count-reverse s xs = omega (arith, count-reversed s xs [], count-nil s)
 
 module _ (a : Arena) (linked : DoublyLinked a) (o : ℕ) (lo : Link a o) where

@@ -1,11 +1,12 @@
--- `base_removal::take_out` meets its contract. Joining leaves the columns' lengths, and counting leaves stack length and root, so the slot is then popped or freed as
--- the definition says. Assumes nothing.
 use mathlib.Core.Path.{sym, _∙_}
 use native.Mathlib.Omega.{arith}
 use borrow.Author.Needs.{needs}
-use Rattle.base_removal.proofs.Removed.{stack-stays, root-stays, removed-last, removed-other}
+use Rattle.base_removal.proofs.Removed.{last-out, other-out, stack-stays, root-stays}
 use Rattle.base_removal.proofs.take_out.Statement.{statement}
 use Rattle.base_removal.proofs.take_out.Tie as tie
+
+-- `base_removal::take_out` meets its contract. Joining leaves the columns' lengths, and counting leaves stack length and root, so the slot is then popped or freed as
+-- the definition says. Assumes nothing.
 
 slice-read-n : tie.Need-slice-read-n
 slice-read-n c = search needs
@@ -47,14 +48,10 @@ same-length-5 c = search needs
 
 returns : tie.Need-returns
 returns c =
-    let at-pop = c .before .before .before .before .before .before .before .before .before .before in
-    let at-test = at-pop .before .before .before .before .before .before in
+    let at-test = c .before .before .before .before .before .before .before .before .before .before .before .before .before .before .before .before in
     let counted = at-test .before .before .before .count-removal .ensures in
-    let at-join = at-test .before .before .before .before .before .before .before .before .before in
-    record {
-      arena = at-pop .pop .ensures ∙ removed-last _ _ _ _ _ _ (at-join .join .ensures _ _ _) (counted .header) (at-test .if1 .taken);
-      overflowed = counted .overflowed;
-    }
+    let join = at-test .before .before .before .before .before .before .before .before .before .join .ensures in
+    last-out _ _ _ _ _ _ _ (join _ _ _) counted _ (at-test .if1 .taken) (c .before .before .before .before .before .before .before .before .before .before .pop .ensures)
 
 same-length-6 : tie.Need-same-length-6
 same-length-6 c = search needs
@@ -73,14 +70,10 @@ same-length-10 c = search needs
 
 returns-2 : tie.Need-returns-2
 returns-2 c =
-    let at-free = c .before .before .before .before .before .before .before .before .before .before in
-    let at-test = at-free .before .before .before .before .before .before in
+    let at-test = c .before .before .before .before .before .before .before .before .before .before .before .before .before .before .before .before in
     let counted = at-test .before .before .before .count-removal .ensures in
-    let at-join = at-test .before .before .before .before .before .before .before .before .before in
-    record {
-      arena = at-free .free .ensures ∙ removed-other _ _ _ _ _ _ (at-join .join .ensures _ _ _) (counted .header) (at-test .if1 .left);
-      overflowed = counted .overflowed;
-    }
+    let join = at-test .before .before .before .before .before .before .before .before .before .join .ensures in
+    other-out _ _ _ _ _ _ _ (join _ _ _) counted _ (at-test .if1 .left) (c .before .before .before .before .before .before .before .before .before .before .free .ensures)
 
 pub take-out-spec : {M : Type 1} → statement M
 take-out-spec =

@@ -53,11 +53,11 @@ returns-4 : tie.Need-returns-4
 unfolding connect
 returns-4 c = rw (← c .before .before .slot-at2 .ensures, ← c .before .before .before .before .before .before .before .before .slot-at .ensures) (search reads depth 20)
 
-put-at-requires : tie.Need-put-at-requires
-put-at-requires c κs = let p = fresh _ _ _ (sym (c .before .before .before .before .before .before .before .before .before .before .before .before .stale .ensures) ∙ c .before .before .before .before .before .before .before .before .before .before .before .if1 .left) in omega arith
+set-at-requires : tie.Need-set-at-requires
+set-at-requires c κs = let p = fresh _ _ _ (sym (c .before .before .before .before .before .before .before .before .before .before .before .before .stale .ensures) ∙ c .before .before .before .before .before .before .before .before .before .before .before .if1 .left) in omega arith
 
-put-at-requires-2 : tie.Need-put-at-requires-2
-put-at-requires-2 c κs = let p = fresh _ _ _ (sym (c .before .before .before .before .before .before .before .before .before .before .stale2 .ensures) ∙ c .before .before .before .before .before .before .before .before .before .if3 .left) in omega arith
+set-at-requires-2 : tie.Need-set-at-requires-2
+set-at-requires-2 c κs = let p = fresh _ _ _ (sym (c .before .before .before .before .before .before .before .before .before .before .stale2 .ensures) ∙ c .before .before .before .before .before .before .before .before .before .if3 .left) in omega arith
 
 same-length-5 : tie.Need-same-length-5
 same-length-5 c = search needs
@@ -67,7 +67,7 @@ same-length-6 c = search needs
 
 returns-5 : tie.Need-returns-5
 unfolding connect
-returns-5 c = rw (c .before .before .before .before .before .before .put-at .ensures, c .before .before .put-at2 .ensures, ← c .before .before .before .before .before .before .before .before .before .before .slot-at2 .ensures, ← c .before .before .before .before .before .before .before .before .before .before .before .before .before .before .before .before .slot-at .ensures) (search reads depth 20)
+returns-5 c = rw (c .before .before .before .before .before .before .set-at .ensures, c .before .before .set-at2 .ensures, ← c .before .before .before .before .before .before .before .before .before .before .slot-at2 .ensures, ← c .before .before .before .before .before .before .before .before .before .before .before .before .before .before .before .before .slot-at .ensures) (search reads depth 20)
 
 pub connect-spec : {M : Type 1} → statement M
 connect-spec =
@@ -87,8 +87,8 @@ connect-spec =
     same-length-3
     same-length-4
     returns-4
-    put-at-requires
-    put-at-requires-2
+    set-at-requires
+    set-at-requires-2
     same-length-5
     same-length-6
     returns-5)

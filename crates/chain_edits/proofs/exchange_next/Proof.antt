@@ -48,14 +48,14 @@ returns-4 : tie.Need-returns-4
 unfolding exchangeNext
 returns-4 c = rw (← c .before .before .before .before .slot-at2 .ensures) (search reads depth 20)
 
-put-two-requires : tie.Need-put-two-requires
-put-two-requires c κs =
+set-two-requires : tie.Need-set-two-requires
+set-two-requires c κs =
     let at-p0 = around _ _ _ (c .before .before .before .before .before .before .before .before .before .before .before .before .before .before .before .before .before .before .before .pre) (sym (c .before .before .before .before .before .before .before .before .before .before .before .before .stale .ensures) ∙ c .before .before .before .before .before .before .before .before .before .before .before .if1 .left) in
     let at-p1 = around _ _ _ (c .before .before .before .before .before .before .before .before .before .before .before .before .before .before .before .before .before .before .before .pre) (sym (c .before .before .before .before .before .before .before .before .before .before .stale2 .ensures) ∙ c .before .before .before .before .before .before .before .before .before .if2 .left) in
     omega arith
 
-put-two-requires-2 : tie.Need-put-two-requires-2
-put-two-requires-2 c κs =
+set-two-requires-2 : tie.Need-set-two-requires-2
+set-two-requires-2 c κs =
     let at-p0 = around _ _ _ (c .before .before .before .before .before .before .before .before .before .before .before .before .before .before .before .before .before .before .before .before .before .before .before .pre) (sym (c .before .before .before .before .before .before .before .before .before .before .before .before .before .before .before .before .stale .ensures) ∙ c .before .before .before .before .before .before .before .before .before .before .before .before .before .before .before .if1 .left) in
     let at-p1 = around _ _ _ (c .before .before .before .before .before .before .before .before .before .before .before .before .before .before .before .before .before .before .before .before .before .before .before .pre) (sym (c .before .before .before .before .before .before .before .before .before .before .before .before .before .before .stale2 .ensures) ∙ c .before .before .before .before .before .before .before .before .before .before .before .before .before .if2 .left) in
     omega (arith, c .before .before .before .before .before .before .before .before .before .before .before .slot-at .ensures, c .before .before .before .before .before .before .before .before .before .slot-at2 .ensures)
@@ -68,7 +68,7 @@ same-length-4 c = search needs
 
 returns-5 : tie.Need-returns-5
 unfolding exchangeNext
-returns-5 c = rw (c .before .before .before .before .before .before .put-two .ensures, c .before .before .put-two2 .ensures, ← c .before .before .before .before .before .before .before .before .before .before .before .before .slot-at2 .ensures, ← c .before .before .before .before .before .before .before .before .before .before .before .before .before .before .slot-at .ensures) (search reads depth 20)
+returns-5 c = rw (c .before .before .before .before .before .before .set-two .ensures, c .before .before .set-two2 .ensures, ← c .before .before .before .before .before .before .before .before .before .before .before .before .slot-at2 .ensures, ← c .before .before .before .before .before .before .before .before .before .before .before .before .before .before .slot-at .ensures) (search reads depth 20)
 
 pub exchange-next-spec : {M : Type 1} → statement M
 exchange-next-spec =
@@ -86,8 +86,8 @@ exchange-next-spec =
     returns-3
     same-length-2
     returns-4
-    put-two-requires
-    put-two-requires-2
+    set-two-requires
+    set-two-requires-2
     same-length-3
     same-length-4
     returns-5)

@@ -1,0 +1,5 @@
+pub mod Ahead
+pub mod Listing
+pub mod Items
+pub mod Draining
+pub mod Answers

@@ -1,0 +1,39 @@
+-- `chain_drain::links_ahead` meets its contract. The loop's invariant: the links counted and those still ahead are all that were ahead. The measure
+-- is the advances left. Assumes nothing.
+use native.Mathlib.Omega.{arith}
+use borrow.Author.Needs.{needs}
+use Rattle.definitions.specs.Arena.{arena}
+use Rattle.chain_iterators.specs.Walk.{walkOf}
+use Rattle.chain_drain.proofs.Ahead.{ahead-less, Counting, counting-starts, counting-ends, counting-small, counting-goes-on}
+use Rattle.chain_drain.proofs.links_ahead.Statement.{statement}
+use Rattle.chain_drain.proofs.links_ahead.Tie as tie
+
+abbrev Inv-loop : tie.InvT-loop
+Inv-loop prev next generation payload header walk₀ links₀ walk links = Counting (arena prev next generation payload header) (walkOf walk₀) (walkOf walk) links
+
+abbrev μ-loop : tie.MeasureT-loop
+μ-loop prev next generation payload header walk₀ links₀ walk links = walk .«max_advances»
+
+loop-holds : tie.Need-loop-holds Inv-loop μ-loop
+loop-holds c = counting-starts _ _
+
+advance-requires : tie.Need-advance-requires Inv-loop μ-loop
+advance-requires c κs = search needs
+
+returns : tie.Need-returns Inv-loop μ-loop
+returns c = counting-ends _ _ _ _ (c .before .before .before .loop .inv) _ (c .before .before .advance .ensures) (c .if1 .taken)
+
+add-links : tie.Need-add-links Inv-loop μ-loop
+add-links c =
+    let small = counting-small _ _ _ _ (c .before .before .before .loop .inv) _ (c .before .before .advance .ensures) (c .if1 .left) in omega (arith, c .before .before .before .before .before .before .before .before .before .good)
+
+loop-less : tie.Need-loop-less Inv-loop μ-loop
+loop-less c = ahead-less _ _ _ (c .before .before .before .advance .ensures) (c .before .if1 .left)
+
+loop-again : tie.Need-loop-again Inv-loop μ-loop
+loop-again c = counting-goes-on _ _ _ _ (c .before .before .before .before .loop .inv) _ (c .before .before .before .advance .ensures) (c .before .if1 .left)
+
+pub links-ahead-spec : {M : Type 1} → statement M
+links-ahead-spec =
+    tie.close
+    (tie.spec Inv-loop μ-loop loop-holds advance-requires returns add-links loop-less loop-again)

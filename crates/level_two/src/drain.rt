@@ -1,0 +1,73 @@
+// The drain of a chain, as a host calls it.
+ghost use mathlib.Core.List.{[], _∷_};
+ghost use Rattle.definitions.specs.Arena.{arena, capacityLimit, largestGeneration};
+ghost use Rattle.definitions.specs.Reply.{reply};
+ghost use Rattle.definitions.specs.Read.{pointer};
+ghost use Rattle.definitions.specs.Calls.{Answers, Drain};
+use chain_arena::Checked;
+use chain_arena::check;
+use chain_drain::Drained;
+use chain_drain::drain;
+use ptr::Gen;
+use ptr::Ptr;
+use ptr::Slot;
+
+// A drain's answer: so many items, and the item, from 1, whose removal overflowed the generation, 0 for none.
+#[repr(C)]
+pub struct DrainResult {
+    pub number: u32,
+    pub broken: u32,
+    pub items: u32,
+    pub overflowed: u32,
+}
+
+// Removes every link of p's chain, in the order of a walk from p, and reports each as it is at its own removal: slot, generation, prev, next, payload.
+#[no_mangle]
+pub extern "C" fn chain_arena_drain(
+    prev: &mut [u16],
+    next: &mut [u16],
+    generation: &mut [u32],
+    payload: &mut [u32],
+    header: &mut [u32],
+    p_slot: u16,
+    p_generation: u32,
+    report: &mut [u32],
+) -> DrainResult
+    ensures { λ r. ⌜ Answers capacityLimit largestGeneration (Drain (pointer «p_slot» «p_generation»))
+        (arena (now (prev .entry)) (now (next .entry)) (now (generation .entry)) (now (payload .entry)) (now (header .entry))) (now (report .entry)) (r .broken)
+        (reply (r .number) (r .items ∷ r .overflowed ∷ []) (arena (now (prev .exit)) (now (next .exit)) (now (generation .exit)) (now (payload .exit)) (now (header .exit))) (now (report .exit))) ⌝ }
+{
+    let checked = check(&*prev, &*next, &*generation, &*payload, &*header);
+    let Checked::Passed = checked else {
+        return DrainResult {
+            number: checked.number(),
+            broken: checked.broken(),
+            items: 0,
+            overflowed: 0,
+        };
+    };
+    let p = Ptr {
+        inx: Slot(p_slot),
+        generation: Gen(p_generation),
+    };
+    match drain(prev, next, generation, payload, header, p, report) {
+        Drained::Done { items, overflowed } => DrainResult {
+            number: 0,
+            broken: 0,
+            items: items,
+            overflowed: overflowed,
+        },
+        Drained::Stale => DrainResult {
+            number: 12,
+            broken: 0,
+            items: 0,
+            overflowed: 0,
+        },
+        Drained::Short => DrainResult {
+            number: 14,
+            broken: 0,
+            items: 0,
+            overflowed: 0,
+        },
+    }
+}
