@@ -26,7 +26,7 @@ fn part(words: &[u32], from: usize, count: usize) -> &[u32] {
 }
 
 // A column of the case: so many slots from a place on.
-fn slots(case: &[u32], from: usize, count: usize) -> [u16; 12]
+pub fn slots(case: &[u32], from: usize, count: usize) -> [u16; 12]
     requires { ⌜ (from ≤ 192) × (count ≤ 12) ⌝ }
     ensures { λ r. ⌜ Counts count r ⌝ }
 {

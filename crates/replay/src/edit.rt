@@ -3,6 +3,7 @@ use crate::case::slot_at;
 use crate::case::word_at;
 use crate::text::write_reply;
 use crate::text::write_words;
+use level_two::drain::chain_arena_drain;
 use level_two::edits::chain_arena_break_next;
 use level_two::edits::chain_arena_break_prev;
 use level_two::edits::chain_arena_connect;
@@ -129,6 +130,31 @@ fn remove(
     write_reply(r.number, r.broken, &[r.prev, r.next, r.payload]);
 }
 
+// Drains a chain, with the report lent.
+fn drain(
+    prev: &mut [u16],
+    next: &mut [u16],
+    generation: &mut [u32],
+    payload: &mut [u32],
+    header: &mut [u32],
+    args: &[u32],
+    lent: &mut [u32],
+) {
+    let slot = slot_at(args, 0);
+    let r = chain_arena_drain(
+        prev,
+        next,
+        generation,
+        payload,
+        header,
+        slot,
+        word_at(args, 1),
+        lent,
+    );
+    write_reply(r.number, r.broken, &[r.items, r.overflowed]);
+    write_words(lent);
+}
+
 // Sets the current generation.
 fn set_generation(
     prev: &[u16],
@@ -198,6 +224,7 @@ pub fn call(
         9 => break_next(prev, next, generation, payload, header, args),
         10 => exchange_next(prev, next, generation, payload, header, args),
         11 => remove(prev, next, generation, payload, header, args),
+        12 => drain(prev, next, generation, payload, header, args, lent),
         13 => set_generation(prev, next, generation, payload, header, args),
         14 => inc_generation(prev, next, generation, payload, header),
         15 => canonicalize_freelist(prev, next, generation, payload, header),

@@ -22,9 +22,6 @@ use oracle::{Arena, Call, Ptr, Reply, cases};
 const SLOTS: usize = 12;
 const WORDS: usize = 64;
 
-/// The codes of the calls that the program cannot make yet.
-const LEFT_OUT: [usize; 2] = [12, 18];
-
 /// How many cases are tried.
 const SEEDS: u64 = 200_000;
 
@@ -42,9 +39,6 @@ fn main() {
         let Some(case) = case_line(&before, &call) else { continue };
         let Some(after) = crate_answer(&before, &call) else { continue };
         let (code, number) = (code_of(&call), after.reply.number);
-        if LEFT_OUT.contains(&code) {
-            continue;
-        }
         let cases = kept.entry((code, number, corner(&before, &call, number))).or_default();
         if cases.len() < wanted(code, number) {
             cases.push([case, answer_line(&after)]);
