@@ -8,5 +8,37 @@ pub struct Level {
     pub exports: &'static [&'static str],
 }
 
-/// Every level that this package links.
-pub const LEVELS: &[Level] = &[Level { name: "level_one", exports: &["chain_arena_check"] }];
+/// Every level. Level One is always linked, the others by the cargo feature of their name.
+pub const LEVELS: &[Level] = &[
+    Level {
+        name: "level_one",
+        exports: &[
+            "chain_arena_check",
+            "chain_arena_get_link",
+            "chain_arena_get_link_no_gen",
+            "chain_arena_are_neighbors",
+            "chain_arena_walk_start",
+            "chain_arena_walk_step",
+        ],
+    },
+    Level {
+        name: "level_two",
+        exports: &[
+            "chain_arena_connect",
+            "chain_arena_break_prev",
+            "chain_arena_break_next",
+            "chain_arena_exchange_next",
+            "chain_arena_remove",
+            "chain_arena_drain",
+            "chain_arena_set_generation",
+            "chain_arena_inc_generation",
+            "chain_arena_canonicalize_freelist",
+            "chain_arena_run",
+        ],
+    },
+    Level { name: "level_three", exports: &["chain_arena_compress_with", "chain_arena_compress_canonical"] },
+];
+
+/// The levels that are still being written, by name: one that does not have all its exports yet is left out with a warning.
+/// Of every other level a missing archive is an error.
+pub const BEING_WRITTEN: &[&str] = &[];

@@ -3,6 +3,7 @@
 use std::fmt;
 
 use crate::Arena;
+use crate::arena::word;
 
 /// The chains and free slots of an arena that passed the check.
 #[derive(Clone, Debug, PartialEq, Eq)]
@@ -20,9 +21,8 @@ impl Picture {
     pub(crate) fn of(arena: &Arena<'_>) -> Self {
         let stack = arena.header.first().map_or(0, |&n| n as usize).min(arena.next.len());
         let mut drawn = vec![false; stack + 1];
-        let links: Vec<u16> =
-            (1..=stack).filter(|&s| word(arena.generation, s) != 0).map(|s| s as u16).collect();
-        let starts = links.iter().filter(|&&s| word(arena.prev, s.into()) == 0);
+        let links: Vec<u16> = (1..=stack as u16).filter(|&s| word(arena.generation, s) != 0).collect();
+        let starts = links.iter().filter(|&&s| word(arena.prev, s) == 0);
         let open = starts.map(|&s| follow(arena, s, &mut drawn)).collect();
         let mut closed = Vec::new();
         for &s in &links {
@@ -35,11 +35,6 @@ impl Picture {
     }
 }
 
-/// The word of a column at slot `s`, 0 where it has none.
-fn word<T: Copy + Default>(column: &[T], s: usize) -> T {
-    s.checked_sub(1).and_then(|place| column.get(place)).copied().unwrap_or_default()
-}
-
 /// The slots from `first` along next, up to the end or to one that is drawn already.
 fn follow(arena: &Arena<'_>, first: u16, drawn: &mut [bool]) -> Vec<u16> {
     let mut slots = Vec::new();
@@ -47,7 +42,7 @@ fn follow(arena: &Arena<'_>, first: u16, drawn: &mut [bool]) -> Vec<u16> {
     while at != 0 && drawn.get(at as usize) == Some(&false) {
         drawn[at as usize] = true;
         slots.push(at);
-        at = word(arena.next, at.into());
+        at = word(arena.next, at);
     }
     slots
 }

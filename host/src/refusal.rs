@@ -1,7 +1,30 @@
-//! What a call refuses, by document 01's number and in words.
+//! What a call answers first: that it was done, or what it refuses, by document 01's number and in words.
 
 use std::error::Error;
 use std::fmt;
+
+/// What is told of a call that was done.
+#[derive(Clone, Copy, Debug, PartialEq, Eq)]
+pub struct Done {
+    /// Whether the current generation went from 4,294,967,295 to 2, so that pointers kept from before may name other links
+    pub overflowed: bool,
+}
+
+impl Done {
+    /// What a call's number and broken slot stand for.
+    pub fn of(number: u32, broken: u32) -> Result<Self, Refusal> {
+        match number {
+            0 => Ok(Self { overflowed: false }),
+            100 => Ok(Self { overflowed: true }),
+            _ => Err(Refusal { number, broken }),
+        }
+    }
+
+    /// What the answer word of a run's command stands for.
+    pub fn answer(word: u32) -> Result<Self, Refusal> {
+        Self::of(word, 0)
+    }
+}
 
 /// A refusal. No refused call has written anything.
 #[derive(Clone, Copy, Debug, PartialEq, Eq)]
@@ -11,11 +34,6 @@ pub struct Refusal {
 }
 
 impl Refusal {
-    /// The refusal that a call's number and broken slot stand for, or none if the call was done (0 or 100).
-    pub fn of(number: u32, broken: u32) -> Option<Self> {
-        (number != 0 && number != 100).then_some(Self { number, broken })
-    }
-
     /// Document 01's number.
     pub fn number(self) -> u32 {
         self.number

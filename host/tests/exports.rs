@@ -1,7 +1,9 @@
-//! The archives export the names of the list and no others, and need nothing from outside but the C library's copying.
+//! The archives export the names of the list and no others, and need nothing from outside but the C library's copying; the
+//! C header declares the same names.
 
 use std::collections::BTreeSet;
-use std::path::Path;
+use std::fs;
+use std::path::{Path, PathBuf};
 use std::process::Command;
 
 use chain_arena::levels::{LEVELS, Level};
@@ -9,9 +11,19 @@ use chain_arena::levels::{LEVELS, Level};
 /// What a compiler may call to copy, fill and compare memory.
 const COPYING: [&str; 5] = ["bcmp", "memcmp", "memcpy", "memmove", "memset"];
 
-/// The linked archives' global names: those that they have, or those that they want. None if nm is not there.
+/// A level's archive where it was linked from.
+fn archive(level: &Level) -> PathBuf {
+    Path::new(env!("CHAIN_ARENA_LINKED")).join(format!("lib{}.a", level.name))
+}
+
+/// The levels that were linked.
+fn linked() -> impl Iterator<Item = &'static Level> {
+    LEVELS.iter().filter(|level| archive(level).exists())
+}
+
+/// A linked archive's global names: those that it has, or those that it wants. None if nm is not there.
 fn names(level: &Level, which: &str) -> Option<BTreeSet<String>> {
-    let archive = Path::new(env!("CHAIN_ARENA_LINKED")).join(format!("lib{}.a", level.name));
+    let archive = archive(level);
     let output = Command::new("nm").args(["-g", "-P", which]).arg(&archive).output().ok()?;
     assert!(output.status.success(), "nm could not read {}", archive.display());
     let text = String::from_utf8_lossy(&output.stdout).into_owned();
@@ -24,8 +36,16 @@ fn first_word(line: &str) -> Option<String> {
 }
 
 #[test]
+fn there_are_18_calls_and_level_one_is_linked() {
+    let all: BTreeSet<&str> = LEVELS.iter().flat_map(|level| level.exports).copied().collect();
+    assert_eq!(all.len(), 18);
+    assert_eq!(LEVELS.iter().map(|level| level.exports.len()).collect::<Vec<_>>(), [6, 10, 2]);
+    assert!(linked().any(|level| level.name == "level_one"));
+}
+
+#[test]
 fn each_archive_exports_the_names_of_the_list() {
-    for level in LEVELS.iter().filter(|level| linked(level)) {
+    for level in linked() {
         let Some(defined) = names(level, "--defined-only") else {
             println!("nm is not there: the exported names were not looked at");
             return;
@@ -37,7 +57,7 @@ fn each_archive_exports_the_names_of_the_list() {
 
 #[test]
 fn no_archive_needs_memory_or_anything_else_from_outside() {
-    for level in LEVELS.iter().filter(|level| linked(level)) {
+    for level in linked() {
         let Some(wanted) = names(level, "--undefined-only") else {
             println!("nm is not there: the wanted names were not looked at");
             return;
@@ -47,7 +67,12 @@ fn no_archive_needs_memory_or_anything_else_from_outside() {
     }
 }
 
-/// Whether a level's archive was linked.
-fn linked(level: &Level) -> bool {
-    Path::new(env!("CHAIN_ARENA_LINKED")).join(format!("lib{}.a", level.name)).exists()
+#[test]
+fn the_header_declares_the_names_of_the_list() {
+    let header = Path::new(env!("CARGO_MANIFEST_DIR")).join("../include/chain_arena.h");
+    let text = fs::read_to_string(header).unwrap();
+    let declared: Vec<&str> =
+        text.lines().filter_map(|line| line.strip_suffix('(')?.split(' ').nth(1)).collect();
+    let listed: Vec<&str> = LEVELS.iter().flat_map(|level| level.exports).copied().collect();
+    assert_eq!(declared, listed);
 }

@@ -1,10 +1,11 @@
-//! The safe wrapper: the check, the refusals in words, the picture.
-#![cfg(level_one)]
+//! The safe wrapper: answers, refusals in words, the walk, edits and compressions.
 
-use chain_arena::{Arena, Refusal};
+#[cfg(level_three)]
+use chain_arena::Moved;
+use chain_arena::{Arena, ArenaMut, Done, Link, LinkNoGen, Pointer, Refusal, Walk};
 
 /// An arena of owned columns.
-#[derive(Clone)]
+#[derive(Clone, Debug, PartialEq, Eq)]
 struct Columns {
     prev: Vec<u16>,
     next: Vec<u16>,
@@ -24,7 +25,26 @@ impl Columns {
             header: &self.header,
         }
     }
+
+    /// The columns as they are lent to a call that writes.
+    fn lent_mut(&mut self) -> ArenaMut<'_> {
+        ArenaMut {
+            prev: &mut self.prev,
+            next: &mut self.next,
+            generation: &mut self.generation,
+            payload: &mut self.payload,
+            header: &mut self.header,
+        }
+    }
 }
+
+/// The pointer to a slot at generation 5.
+fn p(slot: u16) -> Pointer {
+    Pointer { slot, generation: 5 }
+}
+
+/// A pointer that names no link of the sample.
+const STALE: Pointer = Pointer { slot: 1, generation: 4 };
 
 /// 1 -> 5, the closed 2 -> 4 -> (2), and the free slot 3.
 fn sample() -> Columns {
@@ -32,7 +52,7 @@ fn sample() -> Columns {
         prev: vec![0, 4, 0, 2, 1],
         next: vec![5, 4, 3, 2, 0],
         generation: vec![5, 5, 0, 5, 5],
-        payload: vec![0; 5],
+        payload: vec![10, 20, 30, 40, 50],
         header: vec![5, 4, 3, 5],
     }
 }
@@ -46,11 +66,12 @@ fn refusal(change: impl FnOnce(&mut Columns)) -> Refusal {
 
 #[test]
 fn a_whole_arena_passes_and_is_drawn() {
-    let columns = sample();
+    let mut columns = sample();
     assert_eq!(columns.lent().check(), Ok(()));
     let drawn = "  open    1 -> 5\n  closed  2 -> 4 -> (2)\n  free    3\n";
     assert_eq!(columns.lent().picture().unwrap().to_string(), drawn);
     assert_eq!(format!("{:?}", columns.lent()), drawn);
+    assert_eq!(format!("{:?}", columns.lent_mut()), drawn);
 }
 
 #[test]
@@ -91,35 +112,237 @@ fn each_rule_of_the_check_is_named() {
 fn every_number_has_its_words() {
     let mut seen = Vec::new();
     for number in 1..=16 {
-        let words = Refusal::of(number, 7).unwrap().to_string();
+        let words = Done::of(number, 7).unwrap_err().to_string();
         assert!(words.starts_with(&format!("refused with {number}")));
         assert!(!words.contains("no rule"));
         assert_eq!(words.contains("slot 7"), number == 11);
         assert!(!seen.contains(&words));
         seen.push(words);
     }
-    assert_eq!(Refusal::of(0, 0), None);
-    assert_eq!(Refusal::of(100, 0), None);
-    assert!(Refusal::of(17, 0).unwrap().to_string().contains("no rule"));
+    assert_eq!(Done::answer(0), Ok(Done { overflowed: false }));
+    assert_eq!(Done::answer(100), Ok(Done { overflowed: true }));
+    assert!(Done::answer(17).unwrap_err().to_string().contains("no rule"));
+}
+
+#[test]
+fn links_and_neighbours_are_read() {
+    let columns = sample();
+    let arena = columns.lent();
+    assert_eq!(arena.get_link(p(1)), Ok(Link { prev: None, next: Some(p(5)), payload: 10 }));
+    assert_eq!(arena.get_link(p(2)), Ok(Link { prev: Some(p(4)), next: Some(p(4)), payload: 20 }));
+    assert_eq!(arena.get_link_no_gen(p(5)), Ok(LinkNoGen { prev: Some(1), next: None, payload: 50 }));
+    for stale in [STALE, p(0), p(3), p(6)] {
+        assert_eq!(arena.get_link(stale).unwrap_err().number(), 12);
+        assert_eq!(arena.get_link_no_gen(stale).unwrap_err().number(), 12);
+        assert_eq!(arena.walk_start(stale).unwrap_err().number(), 12);
+        assert_eq!(arena.chain(stale).unwrap_err().number(), 12);
+        assert_eq!(arena.are_neighbors(stale, p(5)), Ok(false));
+    }
+    assert_eq!(arena.are_neighbors(p(1), p(5)), Ok(true));
+    assert_eq!(arena.are_neighbors(p(5), p(1)), Ok(false));
+}
+
+#[test]
+fn a_walk_gives_the_whole_chain_and_then_none() {
+    let columns = sample();
+    let arena = columns.lent();
+    for (from, slots) in [(1, [1, 5]), (5, [5, 1]), (2, [2, 4]), (4, [4, 2])] {
+        let mut steps = arena.walk(p(from)).unwrap();
+        assert_eq!(steps.by_ref().map(|p| p.slot).collect::<Vec<_>>(), slots);
+        assert_eq!((steps.next(), steps.next()), (None, None));
+        assert_eq!(arena.chain(p(from)).unwrap(), slots.map(p));
+    }
+}
+
+#[test]
+fn the_state_of_a_walk_can_be_kept_while_the_arena_changes() {
+    let mut columns = sample();
+    let mut walk = columns.lent().walk_start(p(1)).unwrap();
+    assert_eq!(walk, Walk { start: 1, position: 1, direction: 0, left: 4 });
+    assert_eq!(walk.step(&columns.lent()), Ok(Some(p(1))));
+    assert_eq!(walk, Walk { start: 1, position: 5, direction: 0, left: 3 });
+    columns.next[0] = 0;
+    assert_eq!(walk.step(&columns.lent()).unwrap_err().number(), 11);
+    assert_eq!(walk, Walk { start: 1, position: 5, direction: 0, left: 3 });
+    columns.prev[4] = 0;
+    assert_eq!(walk.step(&columns.lent()), Ok(Some(p(5))));
+    assert_eq!(walk, Walk { start: 1, position: 0, direction: 1, left: 2 });
+    assert_eq!(walk.step(&columns.lent()), Ok(None));
+}
+
+#[cfg(level_two)]
+mod level_two {
+    use chain_arena::{Command, DrainedLink, Removed};
+
+    use super::*;
+
+    #[test]
+    fn edits() {
+        let mut columns = sample();
+        let mut arena = columns.lent_mut();
+        assert_eq!(arena.connect(p(1), p(2)).unwrap_err().number(), 13);
+        assert_eq!(arena.break_next(p(2)), Ok(()));
+        assert_eq!(arena.connect(p(5), p(4)), Ok(()));
+        assert_eq!(format!("{arena:?}"), "  open    1 -> 5 -> 4 -> 2\n  free    3\n");
+        assert_eq!(arena.exchange_next(p(1), p(4)), Ok(()));
+        assert_eq!(arena.as_arena().picture().unwrap().closed, [[4, 5]]);
+        assert_eq!(arena.break_prev(p(2)), Ok(()));
+        assert_eq!(arena.break_prev(p(2)).unwrap_err().number(), 13);
+        assert_eq!(arena.exchange_next(STALE, p(4)).unwrap_err().number(), 12);
+        let link = LinkNoGen { prev: Some(4), next: Some(4), payload: 50 };
+        assert_eq!(arena.remove(p(5)), Ok(Removed { link, overflowed: false }));
+        assert_eq!(*arena.header, [4, 3, 3, 6]);
+    }
+
+    #[test]
+    fn a_drain_reports_each_link() {
+        let mut columns = sample();
+        columns.header[3] = u32::MAX;
+        let mut report = [9; 12];
+        let mut arena = columns.lent_mut();
+        assert_eq!(arena.drain(p(5), &mut report[..9]).unwrap_err().number(), 14);
+        let drained = arena.drain(p(5), &mut report).unwrap();
+        let link = |prev, next, payload| LinkNoGen { prev, next, payload };
+        let expected = [
+            DrainedLink { pointer: p(5), link: link(Some(1), None, 50) },
+            DrainedLink { pointer: p(1), link: link(None, None, 10) },
+        ];
+        assert_eq!(drained.links().collect::<Vec<_>>(), expected);
+        assert_eq!(drained.overflowed, Some(1));
+        assert_eq!(report[10..], [9, 9]);
+        assert_eq!(columns.header, [4, 2, 1, 3]);
+    }
+
+    #[test]
+    fn generations_and_the_freelist() {
+        let mut columns = sample();
+        let mut arena = columns.lent_mut();
+        assert_eq!(arena.set_generation(1).unwrap_err().number(), 15);
+        assert_eq!(arena.set_generation(u32::MAX - 1), Ok(()));
+        assert_eq!(arena.inc_generation(), Ok(Done { overflowed: false }));
+        assert_eq!(arena.inc_generation(), Ok(Done { overflowed: true }));
+        assert_eq!(arena.header[3], 2);
+        arena.remove(p(4)).unwrap();
+        arena.remove(p(5)).unwrap();
+        assert_eq!(*arena.header, [4, 2, 4, 4]);
+        assert_eq!(arena.canonicalize_freelist(), Ok(()));
+        assert_eq!(*arena.header, [2, 2, 0, 4]);
+    }
+
+    #[test]
+    fn a_run_of_commands() {
+        let mut columns = sample();
+        let mut arena = columns.lent_mut();
+        let commands = [
+            Command::BreakNext(p(1)).words(),
+            Command::Connect(p(5), p(1)).words(),
+            Command::Connect(p(5), p(1)).words(),
+            Command::BreakPrev(STALE).words(),
+            Command::ExchangeNext(p(5), p(2)).words(),
+            Command::Remove(p(4)).words(),
+            [77; 5],
+        ];
+        let mut answers = [9; 8];
+        assert_eq!(arena.run(commands.as_flattened(), &mut answers), Ok(()));
+        assert_eq!(answers, [0, 0, 13, 12, 0, 0, 16, 9]);
+        assert_eq!(Done::answer(answers[2]).unwrap_err().number(), 13);
+        assert_eq!(format!("{arena:?}"), "  open    5 -> 2 -> 1\n  free    4 -> 3\n");
+        assert_eq!(arena.run(&[1; 6], &mut answers).unwrap_err().number(), 16);
+        assert_eq!(arena.run(&[1; 5], &mut []).unwrap_err().number(), 14);
+    }
+}
+
+#[cfg(level_three)]
+mod level_three {
+    use super::*;
+
+    #[test]
+    fn links_move_down_in_order() {
+        let mut columns = sample();
+        let mut report = [9; 17];
+        let mut arena = columns.lent_mut();
+        assert_eq!(arena.compress_with(false, &mut report[..15]).unwrap_err().number(), 14);
+        assert_eq!(arena.compress_with(false, &mut report), Ok(Done { overflowed: false }));
+        let to = |slot| Pointer { slot, generation: 6 };
+        let moved: Vec<Moved> = Moved::each(&report).collect();
+        assert_eq!(moved, [(1, 1), (2, 2), (4, 3), (5, 4)].map(|(a, b)| Moved { from: p(a), to: to(b) }));
+        assert_eq!(report[16], 9);
+        assert_eq!(format!("{arena:?}"), "  open    1 -> 4\n  closed  2 -> 3 -> (2)\n");
+    }
+
+    #[test]
+    fn chains_are_laid_out() {
+        let mut columns = sample();
+        columns.header[3] = u32::MAX;
+        let mut from = [9; 5];
+        let mut arena = columns.lent_mut();
+        assert_eq!(arena.compress_canonical(false, &mut from[..4]).unwrap_err().number(), 14);
+        assert_eq!(arena.compress_canonical(false, &mut from), Ok(Done { overflowed: true }));
+        assert_eq!(from, [1, 5, 4, 2, 0]);
+        assert_eq!(format!("{arena:?}"), "  open    1 -> 2\n  closed  3 -> 4 -> (3)\n");
+        assert_eq!(arena.compress_canonical(true, &mut from), Ok(Done { overflowed: false }));
+        assert_eq!(from, [1, 2, 3, 4, 0]);
+        assert_eq!(*arena.header, [4, 4, 0, 2]);
+    }
+}
+
+/// Makes every call that is linked, with pointers, words and slices of any kind.
+fn make_every_call(columns: &mut Columns, noise: &mut dyn FnMut() -> u32) {
+    let mut pointer = || Pointer { slot: (noise() % 7) as u16, generation: 4 + noise() % 4 };
+    let (p, q) = (pointer(), pointer());
+    let mut walk =
+        Walk { start: noise() % 7, position: noise() % 7, direction: noise() % 2, left: noise() % 7 };
+    let arena = columns.lent();
+    let _ = format!("{arena:?} {:?} {:?}", arena.get_link(p), arena.get_link_no_gen(p));
+    let _ = (arena.are_neighbors(p, q), walk.step(&arena), arena.chain(p));
+    let _ = arena.walk(p).map(Iterator::count);
+    #[cfg(level_two)]
+    {
+        let mut slice: Vec<u32> = (0..noise() % 40).map(|_| noise() % 6).collect();
+        let mut answers = vec![0; noise() as usize % 9];
+        let mut arena = columns.lent_mut();
+        let _ = (arena.connect(p, q), arena.exchange_next(p, q), arena.break_prev(p), arena.break_next(q));
+        let _ = (arena.set_generation(noise() % 4), arena.inc_generation());
+        let _ = (arena.run(&slice, &mut answers), arena.remove(p), arena.canonicalize_freelist());
+        let _ = arena.drain(q, &mut slice).map(|drained| drained.links().count());
+    }
+    #[cfg(level_three)]
+    {
+        let mut report = vec![0; noise() as usize % 30];
+        let mut from = vec![0; noise() as usize % 7];
+        let reset = noise().is_multiple_of(2);
+        let mut arena = columns.lent_mut();
+        let _ = (arena.compress_with(reset, &mut report), arena.compress_canonical(reset, &mut from));
+        let _ = Moved::each(&report).count();
+    }
 }
 
 #[test]
 fn nothing_panics_on_any_words() {
-    let mut word = 1u32;
+    let mut bits = 1u64;
     let mut noise = || {
-        word = word.wrapping_mul(1_664_525).wrapping_add(1_013_904_223);
-        word >> 8
+        bits ^= bits << 13;
+        bits ^= bits >> 7;
+        bits ^= bits << 17;
+        (bits >> 16) as u32
     };
-    for _ in 0..100_000 {
-        let length = noise() as usize % 6;
-        let mut small = || noise() % (length as u32 + 2);
-        let columns = Columns {
-            prev: (0..length).map(|_| small() as u16).collect(),
-            next: (0..length).map(|_| small() as u16).collect(),
-            generation: (0..length).map(|_| small() / 2).collect(),
-            payload: vec![0; length],
-            header: vec![small(), small(), small(), 2 + small()],
-        };
-        let _ = format!("{:?}", columns.lent());
+    let mut passed = 0;
+    for _ in 0..200_000 {
+        let mut columns = sample();
+        for _ in 0..noise() % 4 {
+            let (place, word) = (noise() as usize % 5, noise() % 8);
+            match noise() % 6 {
+                0 => columns.prev[place] = word as u16,
+                1 => columns.next[place] = word as u16,
+                2 => columns.generation[place] = word,
+                3 => columns.header[place % 4] = word,
+                4 => columns.header.truncate(place),
+                _ => columns.payload.truncate(place),
+            }
+            columns.header.resize(4, word);
+        }
+        passed += u32::from(columns.lent().check().is_ok());
+        make_every_call(&mut columns, &mut noise);
     }
+    assert!(passed > 50_000, "only {passed} arenas passed the check");
 }

@@ -1,7 +1,7 @@
 //! Random calls with random arguments, on any arena.
 
 use crate::random::Random;
-use crate::{Arena, Call, Ptr, Walk};
+use crate::{Arena, Call, Ptr, Walk, model};
 
 /// The header's word, 0 if the header has none.
 fn word(a: &Arena, place: usize) -> usize {
@@ -42,21 +42,28 @@ fn some_walk(r: &mut Random, a: &Arena, kept: &[Walk]) -> Walk {
     Walk { start, position, direction: r.pick(&[0, 0, 1, 2, u32::MAX]), left }
 }
 
-/// A run of up to a hundred commands, some of them unknown or with a slot over 65,535, seldom of a bad length.
-fn some_run(r: &mut Random, a: &Arena) -> Call {
-    let commands = r.below(100);
+/// The words of up to `most` commands, some of them unknown or with a slot over 65,535.
+pub fn some_commands(r: &mut Random, a: &Arena, most: usize) -> Vec<u32> {
     let mut words = Vec::new();
-    for _ in 0..commands {
+    for _ in 0..r.below(most) {
         let (p, q) = (some_ptr(r, a), some_ptr(r, a));
-        let over = if r.once_in(20) { 65_536 } else { 0 };
+        let mut over = || if r.once_in(40) { 65_536 } else { 0 };
+        let (over_p, over_q) = (over(), over());
         words.extend([
             r.pick(&[1, 1, 2, 3, 4, 4, 5, 0, 6, u32::MAX]),
-            u32::from(p.slot) + over,
+            u32::from(p.slot) + over_p,
             p.generation,
-            q.slot.into(),
+            u32::from(q.slot) + over_q,
             q.generation,
         ]);
     }
+    words
+}
+
+/// A run of up to a hundred commands, seldom of a bad length or with too few answers.
+fn some_run(r: &mut Random, a: &Arena) -> Call {
+    let mut words = some_commands(r, a, 100);
+    let commands = words.len() / 5;
     if r.once_in(10) {
         words.push(r.word());
     }
@@ -107,4 +114,34 @@ pub fn keep(kept: &mut Vec<Walk>, call: &Call, words: &[u32; 6]) {
         kept.remove(0);
     }
     kept.push(Walk { start, position, direction, left });
+}
+
+/// The words of a run of connects, breaks and exchanges. Fitting ones are all done; the others name any links, so that many
+/// are refused.
+pub fn mixed_edits(r: &mut Random, a: &Arena, edits: usize, fitting: bool) -> Vec<u32> {
+    let slots: Vec<usize> = a.link_slots().collect();
+    let mut a = a.clone();
+    let mut words = Vec::new();
+    while words.len() < 5 * edits {
+        let (p, q) = (a.ptr(r.pick(&slots)), a.ptr(r.pick(&slots)));
+        let code = if fitting { fitting_code(r, &a, p, q) } else { Some(1 + r.below(4) as u32) };
+        let Some(code) = code else { continue };
+        let command = [code, p.slot.into(), p.generation, q.slot.into(), q.generation];
+        model::apply(&mut a, &command);
+        words.extend(command);
+    }
+    words
+}
+
+/// The code of an edit that can be done with two links: a connect if it fits, else one of the others.
+fn fitting_code(r: &mut Random, a: &Arena, p: Ptr, q: Ptr) -> Option<u32> {
+    let has = |column: &[u16], p: Ptr| column[p.slot as usize - 1] != 0;
+    let fits = |code: u32| match code {
+        1 => !has(&a.next, p) && !has(&a.prev, q),
+        2 => has(&a.prev, p),
+        3 => has(&a.next, p),
+        _ => has(&a.next, p) && has(&a.next, q),
+    };
+    let code = r.pick(&[2, 3, 4, 4]);
+    [1, code].into_iter().find(|&code| fits(code))
 }

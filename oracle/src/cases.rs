@@ -1,7 +1,7 @@
 //! Cases taken whole: every small arena, every tuple of words, every call with every pointer.
 
 use crate::random::Random;
-use crate::{Arena, Call, Ptr, Walk};
+use crate::{Arena, Call, Ptr, Walk, model};
 
 /// The number of accepted arenas of stack length 0 to 5.
 pub const COUNTS: [usize; 6] = [1, 3, 13, 73, 501, 4_051];
@@ -81,6 +81,20 @@ pub fn dressed(a: &Arena, r: &mut Random, room: usize, links: &[u32], current: u
     a
 }
 
+/// Every accepted arena of a stack length in four dresses: as the marked cases have them, with mixed generations, one
+/// removal away from an overflow, and at it.
+pub fn dressed_arenas(length: usize) -> Vec<Arena> {
+    let mut r = Random::new(length as u64);
+    let mut arenas = Vec::new();
+    for a in small_arenas(length) {
+        arenas.push(dressed(&a, &mut r, 0, &[5], 5));
+        arenas.push(dressed(&a, &mut r, 2, &[1, 2, 5, 6, u32::MAX], 6));
+        arenas.push(dressed(&a, &mut r, 1, &[u32::MAX - 1], u32::MAX - 1));
+        arenas.push(dressed(&a, &mut r, 1, &[2, u32::MAX], u32::MAX));
+    }
+    arenas
+}
+
 /// Every tuple of words of a stack length: each slot's generation 0 or 5, its prev and next, the root and the link count
 /// each 0 to the length and 1. The capacity is the length and `room`, with noise past the stack.
 pub fn each_tuple(length: usize, room: usize, mut found: impl FnMut(&mut Arena)) {
@@ -142,11 +156,24 @@ pub fn each_reading(a: &Arena, mut found: impl FnMut(Call)) {
             found(Call::AreNeighbors(p, q));
         }
     }
-    let words = a.stack() as u32 + 2;
-    for start in 0..words {
-        for position in 0..words {
-            for direction in [0, 1] {
-                for left in 0..words {
+    let words: Vec<u32> = (0..=a.stack() as u32 + 1).collect();
+    each_state(&words, &[0, 1], &words, found);
+}
+
+/// Every step with start and position 0 to the stack length and 1, the same and 65,536, and the largest; any direction
+/// words, and few or many advances left.
+pub fn each_wide_step(a: &Arena, found: impl FnMut(Call)) {
+    let mut words: Vec<u32> = (0..=a.stack() as u32 + 1).flat_map(|s| [s, s + 65_536]).collect();
+    words.push(u32::MAX);
+    each_state(&words, &[0, 1, 2, 65_536, u32::MAX], &[0, 1, 2, 65_536, u32::MAX], found);
+}
+
+/// The step of every state of the given words: start and position, direction, advances left.
+fn each_state(words: &[u32], directions: &[u32], lefts: &[u32], mut found: impl FnMut(Call)) {
+    for &start in words {
+        for &position in words {
+            for &direction in directions {
+                for &left in lefts {
                     found(Call::WalkStep(Walk { start, position, direction, left }));
                 }
             }
@@ -154,26 +181,94 @@ pub fn each_reading(a: &Arena, mut found: impl FnMut(Call)) {
     }
 }
 
-/// Every call of Level Two with every pointer of the list; reports and answers exact, longer and too short.
+/// Every state that a walk from any link comes through, the last one after its first none.
+pub fn each_walked_state(a: &Arena, mut found: impl FnMut(Walk)) {
+    for s in a.link_slots() {
+        let slot = s as u32;
+        let mut walk = Walk { start: slot, position: slot, direction: 0, left: a.links() as u32 };
+        loop {
+            found(walk);
+            let [answer, _, start, position, direction, left] = model::walk_step(a, walk).words;
+            walk = Walk { start, position, direction, left };
+            if answer == 0 {
+                found(walk);
+                break;
+            }
+        }
+    }
+}
+
+/// Every call of Level Two with every pointer of the list; reports empty, one word short of the chain, exact, and longer; a
+/// run of each single command, and runs of every length up to eleven words with up to three answers.
 pub fn each_edit(a: &Arena, mut found: impl FnMut(Call)) {
+    const NOISE: u32 = 0xdead_beef;
     let pointers = pointers(a);
     for &p in &pointers {
         found(Call::BreakPrev(p));
         found(Call::BreakNext(p));
         found(Call::Remove(p));
-        for words in [0, 5 * a.links(), 5 * a.links() + 3] {
-            found(Call::Drain(p, vec![0xdead_beef; words]));
+        let stale = !a.is_link(p.slot.into());
+        let chain = if stale { 1 } else { model::chain_of(a, p.slot.into()).len() };
+        for words in [0, 5 * chain - 1, 5 * chain, 5 * a.links() + 3] {
+            found(Call::Drain(p, vec![NOISE; words]));
         }
         for &q in &pointers {
             found(Call::Connect(p, q));
             found(Call::ExchangeNext(p, q));
         }
     }
-    for generation in [0, 1, 2, 3, u32::MAX] {
+    for generation in [0, 1, 2, 3, u32::MAX - 1, u32::MAX] {
         found(Call::SetGeneration(generation));
     }
     found(Call::IncGeneration);
     found(Call::CanonicalizeFreelist);
+    for command in commands(&pointers) {
+        found(Call::Run(command.to_vec(), vec![NOISE; 2]));
+    }
+    for words in 0..=11 {
+        for answers in 0..=3 {
+            found(Call::Run(vec![1; words], vec![NOISE; answers]));
+        }
+    }
+}
+
+/// Every command with every pair of the pointers, each break and removal also with a second pointer that is not looked at,
+/// and unknown codes.
+pub fn commands(pointers: &[Ptr]) -> Vec<[u32; 5]> {
+    let mut commands = Vec::new();
+    let mut push = |code, p: Ptr, q: Ptr| {
+        commands.push([code, p.slot.into(), p.generation, q.slot.into(), q.generation]);
+    };
+    for (k, &p) in pointers.iter().enumerate() {
+        for &q in pointers {
+            push(1, p, q);
+            push(4, p, q);
+        }
+        for code in [2, 3, 5, 0, 6, 65_537, u32::MAX] {
+            push(code, p, pointers[(k + 1) % pointers.len()]);
+        }
+    }
+    commands
+}
+
+/// Every run of two commands, with pointers to every link and a stale one, and some with 65,536 added to a slot.
+pub fn each_pair_of_commands(a: &Arena, mut found: impl FnMut(Call)) {
+    let mut pointers: Vec<Ptr> = a.link_slots().map(|s| a.ptr(s)).collect();
+    let stale = pointers
+        .first()
+        .map_or(Ptr { slot: 1, generation: 5 }, |p| Ptr { generation: p.generation.wrapping_add(1), ..*p });
+    pointers.push(stale);
+    let mut commands = commands(&pointers);
+    for k in 0..commands.len().min(3) {
+        let mut over = commands[k];
+        over[1] += 65_536;
+        commands.push(over);
+    }
+    for first in &commands {
+        for second in &commands {
+            found(Call::Run([*first, *second].concat(), vec![9; 2]));
+        }
+    }
 }
 
 /// Both compressions with and without reset; reports and where-from columns exact, longer and too short.

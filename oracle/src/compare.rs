@@ -3,7 +3,7 @@
 use std::fmt;
 use std::io::{Write, stderr};
 
-use crate::{Arena, Call, Reply, exports, model};
+use crate::{Arena, Call, Reply, exports, model, wrapper};
 
 /// What a call leaves: its reply, the slices that it was lent, and the arena.
 #[derive(Clone, Debug, PartialEq, Eq)]
@@ -74,16 +74,41 @@ impl fmt::Display for Counts {
 }
 
 impl Counts {
-    /// Says what was compared, and what was skipped, past the test harness, which keeps the lines of tests that pass.
+    /// Counts a case and what it must answer.
+    pub fn count(&mut self, number: u32) {
+        self.cases += 1;
+        self.numbers[number as usize] += 1;
+    }
+
+    /// Says what was compared, and what was skipped, and holds to it that all that is there was asked.
     pub fn report(&self, what: &str) {
-        let _ = writeln!(stderr(), "{what}: {self}");
+        self.say(what);
         if !crate_text_found() {
-            let _ = writeln!(
-                stderr(),
-                "{what}: the crate's files are not at hand, so the live comparison was skipped"
-            );
+            say(what, "the crate's files are not at hand, so the live comparison was skipped");
+        }
+        assert_eq!(self.with_crate > 0, crate_text_found(), "{what}: the crate was not asked");
+    }
+
+    /// Says how many cases there were, and which of them were not asked of the exports.
+    pub fn say(&self, what: &str) {
+        say(what, &self.to_string());
+        let missing: Vec<usize> = (1..=3).filter(|&level| !exports::linked(level)).collect();
+        if missing.is_empty() {
+            assert_eq!(self.with_exports, self.cases, "{what}: an exported call was not asked");
+        } else if self.with_exports < self.cases {
+            say(what, &format!("not linked, and so not asked: the calls of level {missing:?}"));
         }
     }
+}
+
+/// Writes a line past the test harness, which keeps the lines of tests that pass.
+fn say(what: &str, line: &str) {
+    let _ = writeln!(stderr(), "{what}: {line}");
+}
+
+/// How many times the default number of random cases is made: 50 times for a long run, where CHAIN_ARENA_LONG is set.
+pub fn times() -> u64 {
+    if std::env::var_os("CHAIN_ARENA_LONG").is_some() { 50 } else { 1 }
 }
 
 /// Whether the crate's text was found when this was built.
@@ -132,6 +157,18 @@ pub fn export_outcome(before: &Arena, call: &Call) -> Option<Outcome> {
     Some(Outcome { reply, call, arena })
 }
 
+/// What the call leaves if it is made through the safe wrapper, if its level is linked.
+pub fn wrapper_outcome(before: &Arena, call: &Call) -> Option<Outcome> {
+    let (mut arena, mut call) = (before.clone(), call.clone());
+    let reply = wrapper::perform(&mut arena, &mut call)?;
+    Some(Outcome { reply, call, arena })
+}
+
+/// What the product leaves: the exported call, or the model of it while its level is not linked.
+pub fn product_outcome(before: &Arena, call: &Call) -> Outcome {
+    export_outcome(before, call).unwrap_or_else(|| model_outcome(before, call))
+}
+
 /// Whether an outcome is the model's, but for the slot that 11 names: there rule 11 must fail.
 pub fn agrees(before: &Arena, model: &Outcome, other: &Outcome) -> bool {
     if model.reply.number != 11 {
@@ -147,8 +184,7 @@ pub fn agrees(before: &Arena, model: &Outcome, other: &Outcome) -> bool {
 /// Makes one call all three ways.
 pub fn compare(before: &Arena, call: &Call, counts: &mut Counts) -> Result<(), Box<Mismatch>> {
     let expected = model_outcome(before, call);
-    counts.cases += 1;
-    counts.numbers[expected.reply.number as usize] += 1;
+    counts.count(expected.reply.number);
     let mismatch = |side, other: String| {
         Err(Box::new(Mismatch {
             side,
@@ -185,11 +221,10 @@ pub fn compare(before: &Arena, call: &Call, counts: &mut Counts) -> Result<(), B
 pub fn compare_check(
     a: &Arena,
     counts: &mut Counts,
-    check: impl Fn(&Arena) -> Option<Reply>,
+    check: impl Fn(&Arena) -> Reply,
 ) -> Result<(), Box<Mismatch>> {
     let number = model::check(a);
-    counts.cases += 1;
-    counts.numbers[number as usize] += 1;
+    counts.count(number);
     let mismatch = |side, other: String| {
         let model = model_outcome(a, &Call::Check);
         Err(Box::new(Mismatch { side, before: a.clone(), call: Call::Check, model, other }))
@@ -201,12 +236,11 @@ pub fn compare_check(
         }
     }
     let copy = a.clone();
-    if let Some(found) = check(a) {
-        counts.with_exports += 1;
-        let named = if number == 11 { model::rule11_fails(a, found.broken) } else { found.broken == 0 };
-        if found.number != number || !named || found.words != [0; 6] {
-            return mismatch("check", format!("{found:?}"));
-        }
+    let found = check(a);
+    counts.with_exports += 1;
+    let named = if number == 11 { model::rule11_fails(a, found.broken) } else { found.broken == 0 };
+    if found.number != number || !named || found.words != [0; 6] {
+        return mismatch("check", format!("{found:?}"));
     }
     if copy != *a {
         return mismatch("check", "it wrote to a lent buffer".to_string());

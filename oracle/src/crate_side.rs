@@ -291,26 +291,33 @@ impl CrateArena {
         if !self.contains(p) {
             return Some(Reply::number(12));
         }
-        let p = held(p)?;
-        if report.len() < 5 * self.chain.iter_chain(p)?.count() {
+        if report.len() < 5 * self.chain.iter_chain(held(p)?)?.count() {
             return None;
         }
+        let (items, overflowed) = self.drain_chain(p, report)?;
+        Some(Reply::new(0, &[items, overflowed]))
+    }
+
+    /// Takes the whole chain out into a report that is long enough, and answers how many items there were and which of them
+    /// overflowed, 0 for none.
+    pub fn drain_chain(&mut self, p: Ptr, report: &mut [u32]) -> Option<(u32, u32)> {
         let (mut items, mut overflowed) = (0, 0);
-        for item in self.chain.drain_chain(p)? {
+        for (item, words) in self.chain.drain_chain(held(p)?)?.zip(report.as_chunks_mut().0) {
             let ((p, link), overflow) = item.overflowing();
-            let place = 5 * items as usize;
-            report[place] = p.inx().get().into();
-            report[place + 1] = p.generation().get();
-            report[place + 2] = slot(link.prev()).into();
-            report[place + 3] = slot(link.next()).into();
-            report[place + 4] = link.t;
+            *words = [
+                p.inx().get().into(),
+                p.generation().get(),
+                slot(link.prev()).into(),
+                slot(link.next()).into(),
+                link.t,
+            ];
             items += 1;
             if overflow {
                 assert_eq!(overflowed, 0, "two items of one drain overflowed");
                 overflowed = items;
             }
         }
-        Some(Reply::new(0, &[items, overflowed]))
+        Some((items, overflowed))
     }
 
     /// Makes the calls that the commands stand for, or none if 16 or 14 is due for the whole run.
@@ -335,17 +342,19 @@ impl CrateArena {
     }
 
     /// Compresses in slot order; the report is what the crate's closure is called with. None if it is too short.
-    fn compress_with(&mut self, reset: bool, report: &mut [u32]) -> Option<Reply> {
+    pub fn compress_with(&mut self, reset: bool, report: &mut [u32]) -> Option<Reply> {
         if report.len() < 4 * self.chain.len() {
             return None;
         }
-        let mut place = 0;
+        let mut words = report.as_chunks_mut().0.iter_mut();
         let answer = self.chain.compress_with(reset, |old, _, new| {
-            report[place] = old.inx().get().into();
-            report[place + 1] = old.generation().get();
-            report[place + 2] = new.inx().get().into();
-            report[place + 3] = new.generation().get();
-            place += 4;
+            let words = words.next().expect("as many calls as links");
+            *words = [
+                old.inx().get().into(),
+                old.generation().get(),
+                new.inx().get().into(),
+                new.generation().get(),
+            ];
         });
         Some(Reply::number(done(answer)))
     }
@@ -391,9 +400,45 @@ impl CrateArena {
         chain
     }
 
-    /// The crate's chain arena itself, for measuring.
-    pub fn chain_mut(&mut self) -> &mut Chain {
-        &mut self.chain
+    // For measuring: the crate's calls and nothing else; drain_chain and compress_with are such calls too.
+
+    /// Makes edits one after the other, and writes 0 for each that is done, else 1.
+    pub fn edit(&mut self, edits: &[Edit], answers: &mut [u32]) {
+        for (edit, answer) in edits.iter().zip(answers) {
+            let done = match edit.code {
+                1 => self.chain.connect(edit.p, edit.q),
+                2 => self.chain.break_prev(edit.p),
+                3 => self.chain.break_next(edit.p),
+                _ => self.chain.exchange_next(edit.p, edit.q),
+            };
+            *answer = u32::from(done.is_none());
+        }
+    }
+
+    /// Compresses canonically, without a where-from column.
+    pub fn compress(&mut self, reset: bool) -> u32 {
+        done(self.chain.compress_canonical(reset))
+    }
+}
+
+/// A connect, break or exchange as the crate takes it.
+#[derive(Clone, Copy)]
+pub struct Edit {
+    code: u32,
+    p: P0,
+    q: P0,
+}
+
+impl Edit {
+    /// The edits that the words of a run stand for, or none if the crate's types cannot hold a pointer.
+    pub fn of(commands: &[u32]) -> Option<Vec<Self>> {
+        let edit = |words: &[u32; 5]| {
+            let [code, slot, generation, other_slot, other_generation] = *words;
+            let p = Ptr { slot: slot as u16, generation };
+            let (p, q) = both(p, Ptr { slot: other_slot as u16, generation: other_generation })?;
+            Some(Self { code, p, q })
+        };
+        commands.as_chunks().0.iter().map(edit).collect()
     }
 }
 

@@ -2,7 +2,7 @@
 //!
 //! `model` is written from the sentences of document 01. `crate_side` runs the files of crate triple_arena 0.15.1,
 //! unchanged, where they are at hand (see GLUE.md). `exports` calls the archives. `compare` makes one call all three ways
-//! and says where they part.
+//! and says where they part. `wrapper` makes the calls of `exports` through the safe wrapper.
 
 pub mod calls;
 pub mod cases;
@@ -13,6 +13,7 @@ pub mod demand3;
 pub mod exports;
 pub mod model;
 pub mod random;
+pub mod wrapper;
 
 /// The largest number of slots that an arena can have.
 pub const LIMIT: usize = 65_535;
@@ -30,7 +31,7 @@ pub mod header {
 }
 
 /// A lent arena: slot s is at place s - 1 of the four columns. Nothing is promised of what the words say.
-#[derive(Clone, Debug, Default, PartialEq, Eq)]
+#[derive(Clone, Debug, Default, PartialEq, Eq, Hash)]
 pub struct Arena {
     /// Each link's neighbour before it, 0 for none
     pub prev: Vec<u16>,
@@ -144,6 +145,22 @@ pub enum Call {
     CompressWith(u32, Vec<u32>),
     /// The reset word and the where-from column
     CompressCanonical(u32, Vec<u16>),
+}
+
+impl Call {
+    /// The level that the call is sold with, 1 to 3.
+    pub fn level(&self) -> usize {
+        match self {
+            Self::Check
+            | Self::GetLink(_)
+            | Self::GetLinkNoGen(_)
+            | Self::AreNeighbors(..)
+            | Self::WalkStart(_)
+            | Self::WalkStep(_) => 1,
+            Self::CompressWith(..) | Self::CompressCanonical(..) => 3,
+            _ => 2,
+        }
+    }
 }
 
 /// What a call answers: its number, the slot that 11 names, and the further words in the order of the exported struct,

@@ -171,8 +171,8 @@ fn walk_start(a: &Arena, p: Ptr) -> Reply {
     Reply::new(0, &[p.slot.into(), p.slot.into(), 0, a.header[LINKS]])
 }
 
-/// One step: the link at the position, or none, and the next state.
-fn walk_step(a: &Arena, walk: Walk) -> Reply {
+/// One step on an arena that passes the check: the link at the position, or none, and the next state.
+pub fn walk_step(a: &Arena, walk: Walk) -> Reply {
     if walk.left == 0 {
         return step_reply(0, None, walk);
     }
@@ -419,8 +419,8 @@ fn command_ptr(slot: u32, generation: u32) -> Ptr {
     Ptr { slot: u16::try_from(slot).unwrap_or(0), generation }
 }
 
-/// Applies one command and answers its word.
-fn apply(a: &mut Arena, command: &[u32]) -> u32 {
+/// Applies one command of a run to an arena that passes the check, and answers its word.
+pub fn apply(a: &mut Arena, command: &[u32]) -> u32 {
     let p = command_ptr(command[1], command[2]);
     let q = command_ptr(command[3], command[4]);
     match command[0] {

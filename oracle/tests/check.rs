@@ -1,27 +1,14 @@
 //! The exported check against the crate's `_check_invariants` and the model: every tuple of words of short stacks, and a
 //! million damaged random arenas. A check that is wrong must be found out, so some wrong ones are tried too.
 
-use oracle::compare::{Counts, Mismatch, compare_check, crate_text_found};
+use oracle::compare::{Counts, Mismatch, compare_check, times};
 use oracle::random::{self, Random, Style};
 use oracle::{Arena, LIMIT, Reply, cases, exports, model};
-
-/// A multiple of the default number of random arenas, for a long run.
-fn times() -> u64 {
-    if std::env::var_os("CHAIN_ARENA_LONG").is_some() { 50 } else { 1 }
-}
-
-/// Says what was compared; where a level is linked every case was asked of it, and where the crate's files are at hand
-/// most were asked of them.
-fn report(what: &str, counts: &Counts) {
-    counts.report(what);
-    assert_eq!(counts.with_exports, if cfg!(level_one) { counts.cases } else { 0 });
-    assert_eq!(counts.with_crate > 0, crate_text_found());
-}
 
 /// Holds a check to the model and the crate on every tuple of stack length 0 to `longest`.
 fn on_tuples(
     longest: usize,
-    check: impl Fn(&Arena) -> Option<Reply>,
+    check: impl Fn(&Arena) -> Reply,
     counts: &mut Counts,
 ) -> Result<(), Box<Mismatch>> {
     let mut result = Ok(());
@@ -40,7 +27,7 @@ fn on_tuples(
 /// Holds a check to the model and the crate on damaged random arenas of up to 40 slots.
 fn on_damaged(
     arenas: u64,
-    check: impl Fn(&Arena) -> Option<Reply>,
+    check: impl Fn(&Arena) -> Reply,
     counts: &mut Counts,
 ) -> Result<(), Box<Mismatch>> {
     for seed in 0..arenas {
@@ -55,7 +42,7 @@ fn on_damaged(
 fn every_tuple_of_stack_length_0_to_3() {
     let mut counts = Counts::default();
     on_tuples(3, exports::check, &mut counts).unwrap();
-    report("tuples", &counts);
+    counts.report("tuples");
     let tuples: usize = (0..=3).map(cases::tuples).sum();
     assert_eq!(tuples, 4 + 162 + 16_384 + 3_125_000);
     assert_eq!(counts.cases, 2 * tuples as u64);
@@ -79,7 +66,7 @@ fn unread_words() -> u64 {
 fn a_million_damaged_arenas() {
     let mut counts = Counts::default();
     on_damaged(2_000_000 * times(), exports::check, &mut counts).unwrap();
-    report("damaged arenas", &counts);
+    counts.report("damaged arenas");
     for number in 0..=11 {
         assert!(counts.numbers[number] > 1_000, "{number} was hardly tried: {counts}");
     }
@@ -99,7 +86,7 @@ fn large_arenas() {
         random::damage(&mut r, &mut a);
         compare_check(&a, &mut counts, exports::check).unwrap();
     }
-    report("large arenas", &counts);
+    counts.report("large arenas");
 }
 
 #[test]
@@ -139,7 +126,7 @@ fn shapes() {
             }
         }
     }
-    report("shapes", &counts);
+    counts.report("shapes");
 }
 
 /// A check that does something else than document 01 says.
@@ -162,18 +149,12 @@ fn a_wrong_check_is_found_out() {
         }),
     ];
     let mut counts = Counts::default();
-    on_tuples(2, |a| Some(right(a)), &mut counts).unwrap();
-    on_damaged(20_000, |a| Some(right(a)), &mut counts).unwrap();
+    on_tuples(2, right, &mut counts).unwrap();
+    on_damaged(20_000, right, &mut counts).unwrap();
     for (what, check) in wrong {
         let mut counts = Counts::default();
-        assert!(
-            on_tuples(2, |a| Some(check(a)), &mut counts).is_err(),
-            "a check that {what} passes for right"
-        );
-        assert!(
-            on_damaged(20_000, |a| Some(check(a)), &mut counts).is_err(),
-            "a check that {what} passes for right"
-        );
+        assert!(on_tuples(2, check, &mut counts).is_err(), "a check that {what} passes for right");
+        assert!(on_damaged(20_000, check, &mut counts).is_err(), "a check that {what} passes for right");
     }
 }
 

@@ -1,31 +1,17 @@
 //! Every call on every small arena: the crate's text and the exports are held to the model, word by word.
 
-use std::collections::HashSet;
+use std::collections::{HashMap, HashSet};
+use std::io::{Write, stderr};
 
 use oracle::cases::{self, COUNTS};
-use oracle::compare::{Counts, compare, model_outcome};
-use oracle::random::Random;
-use oracle::{Arena, Call, demand3, model};
-
-/// Small arenas of a stack length in four dresses: as the marked cases have them, with mixed generations, one removal
-/// away from an overflow, and at it.
-fn dresses(length: usize) -> Vec<Arena> {
-    let mut r = Random::new(length as u64);
-    let mut arenas = Vec::new();
-    for a in cases::small_arenas(length) {
-        arenas.push(cases::dressed(&a, &mut r, 0, &[5], 5));
-        arenas.push(cases::dressed(&a, &mut r, 2, &[1, 2, 5, 6, u32::MAX], 6));
-        arenas.push(cases::dressed(&a, &mut r, 1, &[u32::MAX - 1], u32::MAX - 1));
-        arenas.push(cases::dressed(&a, &mut r, 1, &[2, u32::MAX], u32::MAX));
-    }
-    arenas
-}
+use oracle::compare::{Counts, compare, model_outcome, product_outcome, times};
+use oracle::{Arena, Call, demand3, exports, model};
 
 /// Holds every call that `each` finds, on every dressed arena of the stack lengths, to the model.
 fn hold(what: &str, lengths: std::ops::RangeInclusive<usize>, each: fn(&Arena, &mut dyn FnMut(Call))) {
     let mut counts = Counts::default();
     for length in lengths {
-        for a in dresses(length) {
+        for a in cases::dressed_arenas(length) {
             each(&a, &mut |call| compare(&a, &call, &mut counts).unwrap());
         }
     }
@@ -38,7 +24,7 @@ fn there_are_so_many() {
         let arenas = cases::small_arenas(length);
         assert_eq!(arenas.len(), count);
         assert!(arenas.iter().all(|a| model::check(a) == 0));
-        let different: HashSet<String> = arenas.iter().map(|a| format!("{a:?}")).collect();
+        let different: HashSet<&Arena> = arenas.iter().collect();
         assert_eq!(different.len(), count);
     }
 }
@@ -49,8 +35,38 @@ fn reading_and_walk() {
 }
 
 #[test]
+fn steps_of_any_words() {
+    hold("steps of any words", 0..=3, |a, found| cases::each_wide_step(a, found));
+}
+
+#[test]
+fn steps_of_states_kept_while_the_arena_changes() {
+    let mut counts = Counts::default();
+    for length in 0..=4 {
+        for a in cases::dressed_arenas(length) {
+            let mut later = HashSet::new();
+            let mut changed = |call: Call| _ = later.insert(model_outcome(&a, &call).arena);
+            cases::each_edit(&a, &mut changed);
+            cases::each_compression(&a, &mut changed);
+            cases::each_walked_state(&a, |walk| {
+                for later in &later {
+                    compare(later, &Call::WalkStep(walk), &mut counts).unwrap();
+                }
+            });
+        }
+    }
+    counts.report("states kept while the arena changes");
+}
+
+#[test]
 fn edits() {
-    hold("edits", 0..=4, |a, found| cases::each_edit(a, found));
+    let longest = if times() > 1 { 5 } else { 4 };
+    hold("edits", 0..=longest, |a, found| cases::each_edit(a, found));
+}
+
+#[test]
+fn runs_of_two_commands() {
+    hold("runs of two commands", 0..=3, |a, found| cases::each_pair_of_commands(a, found));
 }
 
 #[test]
@@ -61,8 +77,9 @@ fn compressions() {
 #[test]
 fn every_call_that_is_done_leaves_a_whole_arena() {
     for length in 0..=4 {
-        for a in dresses(length) {
-            let mut whole = |call: Call| assert_eq!(model::check(&model_outcome(&a, &call).arena), 0);
+        for a in cases::dressed_arenas(length) {
+            let mut whole =
+                |call: Call| assert_eq!(exports::check(&product_outcome(&a, &call).arena).number, 0);
             cases::each_edit(&a, &mut whole);
             cases::each_compression(&a, &mut whole);
         }
@@ -73,9 +90,9 @@ fn every_call_that_is_done_leaves_a_whole_arena() {
 fn demand_3_on_every_small_arena() {
     let mut compressed = 0;
     for length in 0..=5 {
-        for a in dresses(length) {
+        for a in cases::dressed_arenas(length) {
             for reset in [0, 1] {
-                let first = model_outcome(&a, &Call::CompressCanonical(reset, vec![9; a.capacity()]));
+                let first = product_outcome(&a, &Call::CompressCanonical(reset, vec![9; a.capacity()]));
                 let Call::CompressCanonical(_, from) = &first.call else { unreachable!() };
                 assert!([0, 100].contains(&first.reply.number));
                 assert_eq!(demand3::broken(&a, &first.arena, from), None, "{a:?}");
@@ -84,16 +101,44 @@ fn demand_3_on_every_small_arena() {
             }
         }
     }
-    println!("demand 3: {compressed} compressions, each with further ones");
+    let whose = if exports::linked(3) { "exported call" } else { "model, level 3 not being linked" };
+    let _ = writeln!(
+        stderr(),
+        "demand 3: {compressed} compressions by the {whose}, each with three further ones"
+    );
+}
+
+#[test]
+fn arenas_that_compress_alike_hold_the_same_chains_of_payloads() {
+    let mut held = HashMap::new();
+    let mut arenas = 0;
+    let payloads: [fn(usize) -> u32; 3] = [|_| 7, |s| s as u32 % 2, |s| s as u32 / 2];
+    for mut a in (0..=5).flat_map(cases::small_arenas) {
+        for payload in payloads {
+            for s in 1..=a.stack() {
+                a.payload[s - 1] = payload(s);
+            }
+            let left = product_outcome(&a, &Call::CompressCanonical(0, vec![0; a.capacity()])).arena;
+            let n = a.links();
+            let slots = (left.prev[..n].to_vec(), left.next[..n].to_vec(), left.payload[..n].to_vec());
+            let chains = demand3::payload_chains(&a);
+            let before = held.entry(slots).or_insert_with(|| chains.clone());
+            assert_eq!(*before, chains, "{a:?}");
+            arenas += 1;
+        }
+    }
+    let _ = writeln!(stderr(), "alike: {arenas} arenas compress to {} different ones", held.len());
+    assert!(held.len() < arenas);
 }
 
 /// A list of further compressions, refused ones among them, moves no link.
 fn further(first: &Arena, reset: u32) {
     let mut later = first.clone();
     for (reset, places) in [(0, later.capacity()), (reset, later.capacity() + 1), (1, later.capacity())] {
-        let outcome = model_outcome(&later, &Call::CompressCanonical(reset, vec![9; places]));
+        let outcome = product_outcome(&later, &Call::CompressCanonical(reset, vec![9; places]));
         let Call::CompressCanonical(_, from) = &outcome.call else { unreachable!() };
         let accepted = outcome.reply.number != 14;
+        assert_eq!(accepted, places == first.capacity());
         assert_eq!(demand3::moved(first, &outcome.arena, accepted.then_some(from)), None);
         later = outcome.arena;
     }

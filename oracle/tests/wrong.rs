@@ -1,9 +1,12 @@
-//! The comparison must be able to fail: one wrong word is seen, and programs that are wrong in a likely way are found
-//! out on the small arenas that the other tests go through.
+//! The comparison must be able to fail: one wrong word is seen, and for each of the 18 calls programs that are wrong in a
+//! likely way are found out on the cases that the other tests go through.
+
+use std::collections::BTreeSet;
 
 use oracle::compare::{Outcome, agrees, model_outcome};
+use oracle::header::{GENERATION, LINKS, ROOT, STACK};
 use oracle::random::{self, Random};
-use oracle::{Arena, Call, Reply, calls, cases, model};
+use oracle::{Arena, Call, Ptr, Reply, Walk, calls, cases, demand3, model};
 
 /// Every outcome that differs from the given one in one word.
 fn one_word_off(right: &Outcome) -> Vec<Outcome> {
@@ -55,116 +58,394 @@ fn one_wrong_word_is_seen() {
     }
 }
 
-/// A program that does something else than the model.
-type Wrong = fn(&Arena, &Call) -> Outcome;
+/// A program that does something else than the model: what it makes of the model's outcome of a call.
+type Wrong = fn(&Arena, &Call, &mut Outcome);
 
-/// Whether a wrong program is found out on the arenas of stack length 0 to 3.
-fn found_out(wrong: Wrong) -> bool {
-    for length in 0..=3 {
-        for a in cases::small_arenas(length) {
-            let mut found = false;
-            let mut look = |call: Call| {
-                found = found || !agrees(&a, &model_outcome(&a, &call), &wrong(&a, &call));
-            };
-            cases::each_reading(&a, &mut look);
-            cases::each_edit(&a, &mut look);
-            cases::each_compression(&a, &mut look);
-            if found {
-                return true;
+/// The wrong programs, each with the call that it is wrong about.
+#[rustfmt::skip]
+#[allow(clippy::collapsible_if)] // the outer test is the call, the inner one the case
+const WRONG: &[(&str, &str, Wrong)] = &[
+    ("check", "accepts every arena", |_, call, o| if matches!(call, Call::Check) { o.reply = Reply::number(0) }),
+    ("check", "refuses every arena", |_, call, o| if matches!(call, Call::Check) { o.reply = Reply::number(4) }),
+    ("get_link", "prev and next exchanged", |_, call, o| if matches!(call, Call::GetLink(_)) {
+        o.reply.words.swap(0, 2);
+        o.reply.words.swap(1, 3);
+    }),
+    ("get_link", "its own generation for its neighbours'", |_, call, o| if let Call::GetLink(p) = call {
+        for k in [0, 2] {
+            if o.reply.words[k] != 0 {
+                o.reply.words[k + 1] = p.generation;
             }
         }
-    }
-    false
-}
-
-/// The model's outcome with a change made to it, for some calls.
-fn changed(a: &Arena, call: &Call, change: impl Fn(&Call, &mut Outcome)) -> Outcome {
-    let mut outcome = model_outcome(a, call);
-    change(call, &mut outcome);
-    outcome
-}
-
-/// A drain that reports the interlinks as they were before it.
-fn original_interlinks(a: &Arena, call: &Call) -> Outcome {
-    changed(a, call, |_, outcome| {
-        if let Call::Drain(_, report) = &mut outcome.call {
-            let items = outcome.reply.words[0] as usize;
+    }),
+    ("get_link_no_gen", "prev and next exchanged", |_, call, o| if matches!(call, Call::GetLinkNoGen(_)) {
+        o.reply.words.swap(0, 1);
+    }),
+    ("are_neighbors", "the wrong direction", |a, call, o| if let Call::AreNeighbors(p, q) = call {
+        *o = model_outcome(a, &Call::AreNeighbors(*q, *p));
+        o.call = call.clone();
+    }),
+    ("are_neighbors", "the second generation not looked at", |a, call, o| if let Call::AreNeighbors(p, q) = call {
+        if model::check(a) == 0 && a.is_link(q.slot.into()) {
+            *o = model_outcome(a, &Call::AreNeighbors(*p, a.ptr(q.slot.into())));
+            o.call = call.clone();
+        }
+    }),
+    ("are_neighbors", "12 for a stale pointer", |a, call, o| if let Call::AreNeighbors(p, _) = call {
+        if o.reply.number == 0 {
+            o.reply.number = model_outcome(a, &Call::GetLink(*p)).reply.number;
+        }
+    }),
+    ("walk_start", "no advances left", |_, call, o| if matches!(call, Call::WalkStart(_)) { o.reply.words[3] = 0 }),
+    ("walk_step", "advances lowered at 0", |_, call, o| if let Call::WalkStep(walk) = call {
+        o.reply.words[5] = walk.left.wrapping_sub(1);
+    }),
+    ("walk_step", "advances lowered by a refused step", |_, call, o| if let Call::WalkStep(walk) = call {
+        o.reply.words[5] = walk.left.saturating_sub(1);
+    }),
+    ("walk_step", "a closed chain's start twice", |a, _, o| at_end(a, o, |a, walk, o| {
+        if u32::from(a.next[walk.position as usize - 1]) == walk.start {
+            o.reply.words[3] = walk.start;
+        }
+    })),
+    ("walk_step", "a direction that never turns", |a, _, o| at_end(a, o, |a, walk, o| {
+        if a.next[walk.position as usize - 1] == 0 {
+            o.reply.words[4] = 0;
+        }
+    })),
+    ("walk_step", "prev of a start that is no link", |a, _, o| at_end(a, o, |a, walk, o| {
+        let start = (walk.start as usize).wrapping_sub(1);
+        if a.next[walk.position as usize - 1] == 0 && start < a.prev.len() {
+            o.reply.words[3] = a.prev[start].into();
+        }
+    })),
+    ("walk_step", "words cut to 16 bits", |a, call, o| if let Call::WalkStep(walk) = call {
+        let cut = |word: u32| word & 0xffff;
+        let walk = Walk { start: cut(walk.start), position: cut(walk.position), ..*walk };
+        o.reply = model_outcome(a, &Call::WalkStep(walk)).reply;
+    }),
+    ("connect", "always 13", |a, call, o| if matches!(call, Call::Connect(..)) { refuse(a, call, o, 13) }),
+    ("connect", "p_next asked first", |a, call, o| if let (Call::Connect(p, q), 12 | 13) = (call, o.reply.number) {
+        let q = model_outcome(a, &Call::GetLinkNoGen(*q)).reply;
+        let p = model_outcome(a, &Call::GetLinkNoGen(*p)).reply;
+        o.reply.number = [(q.number == 12, 12), (q.words[0] != 0, 13), (p.number == 12, 12), (true, 13)]
+            .into_iter().find(|(holds, _)| *holds).unwrap().1;
+    }),
+    ("break_prev", "the next broken", |a, call, o| if let Call::BreakPrev(p) = call { instead(a, o, Call::BreakNext(*p)) }),
+    ("break_next", "the prev broken", |a, call, o| if let Call::BreakNext(p) = call { instead(a, o, Call::BreakPrev(*p)) }),
+    ("exchange_next", "one prev forgotten", |a, call, o| if let (Call::ExchangeNext(_, q), 0) = (call, o.reply.number) {
+        let after = a.next[q.slot as usize - 1] as usize;
+        o.arena.prev[after - 1] = a.prev[after - 1];
+    }),
+    ("exchange_next", "an end exchanged with itself", |_, call, o| if let (Call::ExchangeNext(p, q), 13) = (call, o.reply.number) {
+        if p == q {
+            o.reply.number = 0;
+        }
+    }),
+    ("remove", "the popped payload left", |_, call, o| removed(call, o, |p, o| {
+        o.arena.payload[p.slot as usize - 1] = o.reply.words[2];
+    })),
+    ("remove", "the freelist touched by a pop", |a, call, o| removed(call, o, |p, o| {
+        if p.slot as usize == a.stack() {
+            o.arena.header[ROOT] = p.slot.into();
+        }
+    })),
+    ("remove", "the free slots below popped too", |a, call, o| removed(call, o, |p, o| {
+        while p.slot as usize == a.stack() && o.arena.stack() > 0 && !o.arena.is_link(o.arena.stack()) {
+            o.arena.header[STACK] -= 1;
+        }
+    })),
+    ("remove", "the old link count", |a, call, o| removed(call, o, |_, o| o.arena.header[LINKS] = a.header[LINKS])),
+    ("remove", "an overflow that is not reported", |_, call, o| if matches!(call, Call::Remove(_)) { hide_overflow(o) }),
+    ("drain", "the original interlinks", |a, _, o| {
+        let items = o.reply.words[0] as usize;
+        if let Call::Drain(_, report) = &mut o.call {
             for item in report.chunks_exact_mut(5).take(items) {
                 let place = item[0] as usize - 1;
-                item[2] = a.prev[place].into();
-                item[3] = a.next[place].into();
+                (item[2], item[3]) = (a.prev[place].into(), a.next[place].into());
             }
         }
-    })
-}
-
-/// A removal that leaves the payload of a popped slot.
-fn leaves_payload(a: &Arena, call: &Call) -> Outcome {
-    changed(a, call, |call, outcome| {
-        if let (Call::Remove(p), 0) = (call, outcome.reply.number) {
-            outcome.arena.payload[p.slot as usize - 1] = outcome.reply.words[2];
+    }),
+    ("drain", "the overflow not named", |_, call, o| if matches!(call, Call::Drain(..)) { o.reply.words[1] = 0 }),
+    ("drain", "an exact report refused", |a, call, o| if let Call::Drain(_, report) = call {
+        if o.reply.number == 0 && report.len() == 5 * o.reply.words[0] as usize {
+            refuse(a, call, o, 14);
         }
-    })
-}
-
-/// An exchange that forgets one prev.
-fn forgets_prev(a: &Arena, call: &Call) -> Outcome {
-    changed(a, call, |call, outcome| {
-        if let (Call::ExchangeNext(_, q), 0) = (call, outcome.reply.number) {
-            let after = a.next[q.slot as usize - 1] as usize;
-            outcome.arena.prev[after - 1] = a.prev[after - 1];
+    }),
+    ("drain", "the old link count", |a, call, o| if matches!(call, Call::Drain(..)) { o.arena.header[LINKS] = a.header[LINKS] }),
+    ("set_generation", "15 at 2", |a, call, o| if matches!(call, Call::SetGeneration(2)) && o.reply.number == 0 {
+        refuse(a, call, o, 15);
+    }),
+    ("set_generation", "1 accepted", |_, call, o| if matches!(call, Call::SetGeneration(1)) && o.reply.number == 15 {
+        (o.reply.number, o.arena.header[GENERATION]) = (0, 1);
+    }),
+    ("inc_generation", "an overflow that is not reported", |_, call, o| if matches!(call, Call::IncGeneration) { hide_overflow(o) }),
+    ("inc_generation", "1 after the largest", |_, call, o| if matches!(call, Call::IncGeneration) && o.reply.number == 100 {
+        o.arena.header[GENERATION] = 1;
+    }),
+    ("canonicalize_freelist", "free end slots left", |a, call, o| if matches!(call, Call::CanonicalizeFreelist) {
+        if o.arena.header[STACK] < a.header[STACK] {
+            o.arena = a.clone();
         }
-    })
-}
-
-/// A step that lowers the advances at 0.
-fn lowers_at_0(a: &Arena, call: &Call) -> Outcome {
-    changed(a, call, |call, outcome| {
-        if let Call::WalkStep(walk) = call {
-            outcome.reply.words[5] = walk.left.wrapping_sub(1);
+    }),
+    ("canonicalize_freelist", "falling order", |a, call, o| if matches!(call, Call::CanonicalizeFreelist) && o.reply.number == 0 {
+        let free: Vec<usize> = (1..=o.arena.stack()).filter(|&s| a.generation[s - 1] == 0).collect();
+        for (k, &s) in free.iter().enumerate() {
+            o.arena.next[s - 1] = free[k.saturating_sub(1)] as u16;
         }
-    })
-}
-
-/// Neighbours whose second generation is not looked at.
-fn ignores_generation(a: &Arena, call: &Call) -> Outcome {
-    changed(a, call, |call, outcome| {
-        if let Call::AreNeighbors(p, q) = call {
-            let first = model_outcome(a, &Call::GetLinkNoGen(*p)).reply;
-            let yes = first.number == 0 && first.words[1] != 0 && first.words[1] == q.slot.into();
-            outcome.reply = Reply::new(0, &[yes.into()]);
+        o.arena.header[ROOT] = free.last().map_or(0, |&s| s as u32);
+    }),
+    ("run", "edits on its first command and only answers 0 later", |a, call, o| run_as(a, call, o, |a, k, command| {
+        if k == 0 { model::apply(a, command) } else { 0 }
+    })),
+    ("run", "slots cut to 16 bits", |a, call, o| run_as(a, call, o, |a, _, command| {
+        model::apply(a, &[command[0], command[1] & 0xffff, command[2], command[3] & 0xffff, command[4]])
+    })),
+    ("run", "12 before 16", |a, call, o| run_as(a, call, o, |a, _, command| {
+        let stale = u16::try_from(command[1]).map_or(true, |s| !a.is_link(s.into()));
+        if stale { 12 } else { model::apply(a, command) }
+    })),
+    ("run", "14 before 16", |_, call, o| if let (Call::Run(words, answers), 16) = (call, o.reply.number) {
+        if answers.len() < words.len() / 5 {
+            o.reply.number = 14;
         }
-    })
-}
+    }),
+    ("compress_with", "old and new exchanged in the report", |_, _, o| if let Call::CompressWith(_, report) = &mut o.call {
+        for words in report.chunks_exact_mut(4) {
+            words.rotate_left(2);
+        }
+    }),
+    ("compress_with", "the root left", |a, call, o| if matches!(call, Call::CompressWith(..)) {
+        o.arena.header[ROOT] = a.header[ROOT];
+    }),
+    ("compress_with", "popped slots left", |a, call, o| if matches!(call, Call::CompressWith(..)) && a.header.len() == 4 {
+        let (from, to) = (o.arena.stack().min(a.stack()), a.stack().min(a.payload.len()));
+        if from < to {
+            o.arena.payload[from..to].copy_from_slice(&a.payload[from..to]);
+        }
+    }),
+    ("compress_canonical", "nothing moved", |a, _, o| if compressed(o) {
+        o.arena = Arena { header: o.arena.header.clone(), ..a.clone() };
+    }),
+    ("compress_canonical", "slot order", |a, _, o| laid_out(a, o, |a| a.link_slots().collect())),
+    ("compress_canonical", "chains by their old lowest slot", |a, _, o| laid_out(a, o, by_lowest)),
+    ("compress_canonical", "a where-from tail that is not zeroed", |a, call, o| where_from(a, call, o, |places, old, n, stack| {
+        places[n..stack].copy_from_slice(&old[n..stack]);
+    })),
+    ("compress_canonical", "a where-from word past the stack zeroed", |a, call, o| where_from(a, call, o, |places, _, _, stack| {
+        places[stack..].fill(0);
+    })),
+    ("compress_canonical", "a reset that reports overflow", |a, call, o| if let Call::CompressCanonical(1.., _) = call {
+        if o.reply.number == 0 && a.header[GENERATION] == u32::MAX {
+            o.reply.number = 100;
+        }
+    }),
+    ("compress_canonical", "a generation raised without links", |a, call, o| if let Call::CompressCanonical(0, _) = call {
+        if o.reply.number == 0 && a.links() == 0 {
+            o.arena.header[GENERATION] = a.header[GENERATION].wrapping_add(1);
+        }
+    }),
+    ("compress_canonical", "a where-from column that may be longer", |a, call, o| if let Call::CompressCanonical(reset, places) = call {
+        if o.reply.number == 14 && places.len() > a.capacity() {
+            let exact = model_outcome(a, &Call::CompressCanonical(*reset, vec![0; a.capacity()]));
+            (o.reply, o.arena) = (exact.reply, exact.arena);
+        }
+    }),
+];
 
-/// A canonical compression that keeps the links in slot order.
-fn slot_order(a: &Arena, call: &Call) -> Outcome {
-    let mut outcome = model_outcome(a, call);
-    if let (Call::CompressCanonical(reset, _), Call::CompressCanonical(_, from)) = (call, &mut outcome.call)
-        && outcome.reply.number == 0
+/// Changes the outcome of a step along next that answers a link.
+fn at_end(a: &Arena, o: &mut Outcome, change: impl Fn(&Arena, Walk, &mut Outcome)) {
+    if let Call::WalkStep(walk) = o.call
+        && o.reply.words[0] != 0
+        && walk.direction == 0
     {
-        let mut report = Call::CompressWith(*reset, vec![0; 4 * a.links()]);
-        outcome.arena = a.clone();
-        outcome.reply = model::perform(&mut outcome.arena, &mut report);
-        for (k, s) in a.link_slots().enumerate() {
-            from[k] = s as u16;
+        change(a, walk, o);
+    }
+}
+
+/// Makes of an outcome a refusal.
+fn refuse(a: &Arena, call: &Call, o: &mut Outcome, number: u32) {
+    if !(1..=11).contains(&o.reply.number) {
+        *o = Outcome { reply: Reply::number(number), call: call.clone(), arena: a.clone() };
+    }
+}
+
+/// Does what another call does.
+fn instead(a: &Arena, o: &mut Outcome, call: Call) {
+    let other = model_outcome(a, &call);
+    (o.reply, o.arena) = (other.reply, other.arena);
+}
+
+/// Changes the outcome of a removal that is done.
+fn removed(call: &Call, o: &mut Outcome, change: impl Fn(&Ptr, &mut Outcome)) {
+    if let (Call::Remove(p), 0 | 100) = (call, o.reply.number) {
+        change(p, o);
+    }
+}
+
+/// Says 0 for 100.
+fn hide_overflow(o: &mut Outcome) {
+    if o.reply.number == 100 {
+        o.reply.number = 0;
+    }
+}
+
+/// Applies the commands of a run in another way: arena, number of the command from 0, command.
+fn run_as(a: &Arena, call: &Call, o: &mut Outcome, apply: impl Fn(&mut Arena, usize, &[u32]) -> u32) {
+    if let (Call::Run(commands, _), Call::Run(_, answers), 0) = (call, &mut o.call, o.reply.number) {
+        o.arena = a.clone();
+        for (k, command) in commands.chunks_exact(5).enumerate() {
+            answers[k] = apply(&mut o.arena, k, command);
         }
     }
-    outcome
+}
+
+/// Whether the outcome is one of a canonical compression that is done.
+fn compressed(o: &Outcome) -> bool {
+    matches!(o.call, Call::CompressCanonical(..)) && matches!(o.reply.number, 0 | 100)
+}
+
+/// Changes the where-from column of a compression: the column, the old column, the link count, the old stack length.
+fn where_from(a: &Arena, call: &Call, o: &mut Outcome, change: impl Fn(&mut [u16], &[u16], usize, usize)) {
+    if compressed(o)
+        && let (Call::CompressCanonical(_, places), Call::CompressCanonical(_, old)) = (&mut o.call, call)
+    {
+        change(places, old, a.links(), a.stack());
+    }
+}
+
+/// Lays the links out in another order of the old slots.
+fn laid_out(a: &Arena, o: &mut Outcome, order: impl Fn(&Arena) -> Vec<usize>) {
+    if !compressed(o) {
+        return;
+    }
+    let order = order(a);
+    let renamed =
+        |old: u16| order.iter().position(|&s| s == old as usize).map_or(0, |place| place as u16 + 1);
+    for (place, &s) in order.iter().enumerate() {
+        o.arena.prev[place] = renamed(a.prev[s - 1]);
+        o.arena.next[place] = renamed(a.next[s - 1]);
+        o.arena.payload[place] = a.payload[s - 1];
+        if let Call::CompressCanonical(_, places) = &mut o.call {
+            places[place] = s as u16;
+        }
+    }
+}
+
+/// The old slots chain by chain, the chains by their lowest slot, a closed one from that slot on.
+fn by_lowest(a: &Arena) -> Vec<usize> {
+    let mut order: Vec<usize> = Vec::new();
+    for s in a.link_slots() {
+        if !order.contains(&s) {
+            let mut first = s;
+            while a.prev[first - 1] != 0 && a.prev[first - 1] as usize != s {
+                first = a.prev[first - 1] as usize;
+            }
+            let start = if a.prev[first - 1] == 0 { first } else { s };
+            order.extend(model::chain_of(a, start));
+        }
+    }
+    order
+}
+
+/// Whether a program is found out on the arenas of stack length 0 to 3, on the compressions of those of 4, or on damaged
+/// ones.
+fn found_out(program: Wrong) -> bool {
+    let differs = |a: &Arena, call: Call| {
+        let right = model_outcome(a, &call);
+        let mut other = right.clone();
+        program(a, &call, &mut other);
+        !agrees(a, &right, &other)
+    };
+    let on = |a: &Arena| {
+        let mut found = false;
+        let mut look = |call: Call| found = found || differs(a, call);
+        cases::each_compression(a, &mut look);
+        if a.stack() <= 3 {
+            cases::each_reading(a, &mut look);
+            cases::each_edit(a, &mut look);
+        }
+        if a.stack() <= 2 {
+            cases::each_wide_step(a, &mut look);
+            cases::each_pair_of_commands(a, &mut look);
+        }
+        found
+    };
+    let on_damaged = |seed| {
+        let mut r = Random::new(seed);
+        let a = random::damaged(&mut r, 5);
+        let call = calls::some_call(&mut r, &a, &[]);
+        differs(&a, call)
+    };
+    (0..=4).any(|length| cases::dressed_arenas(length).iter().any(on)) || (0..2_000).any(on_damaged)
 }
 
 #[test]
 fn a_wrong_program_is_found_out() {
-    assert!(!found_out(model_outcome));
-    let wrong: [(&str, Wrong); 6] = [
-        ("drain with the original interlinks", original_interlinks),
-        ("removal that leaves the payload", leaves_payload),
-        ("exchange that forgets one prev", forgets_prev),
-        ("step that lowers the advances at 0", lowers_at_0),
-        ("neighbours without the second generation", ignores_generation),
-        ("canonical compression in slot order", slot_order),
-    ];
-    for (what, program) in wrong {
-        assert!(found_out(program), "a {what} passes for right");
+    assert!(!found_out(|_, _, _| {}), "a right program is taken for wrong");
+    for (call, what, program) in WRONG {
+        assert!(found_out(*program), "{call}: {what}: passes for right");
     }
+    let calls: BTreeSet<&str> = WRONG.iter().map(|(call, _, _)| *call).collect();
+    assert_eq!(calls.len(), 18, "there is a wrong program for each call");
+}
+
+/// The sentence of demand 3 that a canonical compression of some small arena does not keep once a change is made to it.
+fn demand_3_broken(change: Wrong) -> Option<&'static str> {
+    (0..=4).flat_map(cases::small_arenas).find_map(|a| {
+        let call = Call::CompressCanonical(0, vec![0; a.capacity()]);
+        let mut outcome = model_outcome(&a, &call);
+        change(&a, &call, &mut outcome);
+        let Call::CompressCanonical(_, from) = &outcome.call else { unreachable!() };
+        demand3::broken(&a, &outcome.arena, from)
+    })
+}
+
+#[test]
+fn a_compression_that_does_not_keep_demand_3_is_found_out() {
+    assert_eq!(demand_3_broken(|_, _, _| {}), None);
+    // The two further sentences, on pieces and on payloads, follow from these, so that nothing can break them alone.
+    let wrong: [(&str, Wrong); 6] = [
+        ("stack length and link count are n, the root is 0", |_, _, o| o.arena.header[ROOT] = 1),
+        ("the compressed arena passes the check", |_, _, o| o.arena.next.fill(1)),
+        ("the where-from places hold each old allocated slot exactly once", |_, _, o| {
+            if let Call::CompressCanonical(_, places) = &mut o.call {
+                places.fill(1);
+            }
+        }),
+        ("the payload is carried", |_, _, o| o.arena.payload.reverse()),
+        ("what prev and next came from are the old prev and next", |_, _, o| {
+            std::mem::swap(&mut o.arena.prev, &mut o.arena.next);
+        }),
+        ("a piece that is not closed ends in 0", |a, _, o| laid_out(a, o, |a| a.link_slots().collect())),
+    ];
+    for (sentence, change) in wrong {
+        assert_eq!(demand_3_broken(change), Some(sentence));
+    }
+}
+
+#[test]
+fn a_further_compression_that_moves_a_link_is_found_out() {
+    let mut first = Arena::empty(3);
+    first.generation.fill(5);
+    first.payload.copy_from_slice(&[7, 8, 9]);
+    first.header = vec![3, 3, 0, 5];
+    let with = |change: fn(&mut Arena)| {
+        let mut later = first.clone();
+        change(&mut later);
+        later
+    };
+    let newer = with(|a| (a.header[GENERATION], a.generation) = (6, vec![6; 3]));
+    assert_eq!(demand3::moved(&first, &newer, Some(&[1, 2, 3])), None);
+    assert_eq!(demand3::moved(&first, &newer, None), None);
+    for change in [
+        (|a| a.header[ROOT] = 1) as fn(&mut Arena),
+        |a| a.header[LINKS] = 2,
+        |a| a.payload.swap(0, 1),
+        |a| a.next[0] = 2,
+        |a| a.prev[2] = 2,
+    ] {
+        assert!(demand3::moved(&first, &with(change), None).is_some());
+    }
+    assert!(demand3::moved(&first, &first, Some(&[1, 3, 2])).is_some());
 }

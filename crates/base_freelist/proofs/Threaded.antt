@@ -92,6 +92,7 @@ first-some z (x ∷ fs) e = refl
 
 pub record Relisting (gs old : List ℕ) (m i : ℕ) (ns : List ℕ) (earliest : ℕ) : Type 0 where
   pub within : i ≤ m
+  pub small : earliest ≤ m
   pub first : earliest ≡ firstOr 0 (freeAbove gs m i)
   pub threads : ns ≡ threaded old (freeAbove gs m i)
   pub long : length ns ≡ length old
@@ -99,14 +100,14 @@ pub record Relisting (gs old : List ℕ) (m i : ℕ) (ns : List ℕ) (earliest :
 module _ (gs old : List ℕ) (m : ℕ) where
   pub relisting-starts : Relisting gs old m m old 0
   unfolding firstOr threaded
-  relisting-starts = record { within = omega arith; first = rw (none-above gs m) refl; threads = rw (none-above gs m) refl; long = refl }
+  relisting-starts = record { within = omega arith; small = omega arith; first = rw (none-above gs m) refl; threads = rw (none-above gs m) refl; long = refl }
 
   -- slot i is a link
   pub relisting-passes : (i : ℕ) (ns : List ℕ) (earliest : ℕ) → Relisting gs old m i ns earliest → (i ≡ 0 → ⊥) → (at gs i ≡ 0 → ⊥) → Relisting gs old m (i - 1) ns earliest
   relisting-passes zero ns earliest r d g = absurd (d refl)
   relisting-passes (suc k) ns earliest r d g =
       let e = free-same gs m k (r .within) g in
-      rw (sub-one (suc k)) (record { within = omega arith; first = rw e (r .first); threads = rw e (r .threads); long = r .long })
+      rw (sub-one (suc k)) (record { within = omega arith; small = r .small; first = rw e (r .first); threads = rw e (r .threads); long = r .long })
 
   -- slot i is free: it points at the earliest so far, or at itself where there is none
   pub relisting-lists : (i : ℕ) (ns : List ℕ) (earliest v : ℕ) → Relisting gs old m i ns earliest → (i ≡ 0 → ⊥) → at gs i ≡ 0 → v ≡ firstOr i (freeAbove gs m i) → Relisting gs old m (i - 1) (put ns i v) i
@@ -118,6 +119,7 @@ module _ (gs old : List ℕ) (m : ℕ) where
       rw (sub-one (suc k))
       (record {
         within = omega arith;
+        small = r .within;
         first = rw e refl;
         threads = rw (e, threaded-put old (freeAbove gs m (suc k)) (suc k) (firstOr (suc k) (freeAbove gs m (suc k))) apart, ← r .threads, ← q) refl;
         long = length-put ns (suc k) v ∙ r .long;

@@ -122,21 +122,20 @@ pub fn relist(next: &mut [u16], generation: &[u32], m: usize) -> u16
     requires { ⌜ (m ≤ length (now next)) × (m ≤ length (now generation)) × (m ≤ 65535) ⌝ }
     ensures { λ r. ⌜ (r ≡ firstOr 0 (freeSlots (now (generation .entry)) m)) × (now (next .exit) ≡ threaded (now (next .entry)) (freeSlots (now (generation .entry)) m)) ⌝ }
 {
-    let mut earliest_free: u16 = 0;
+    let mut earliest_free: usize = 0;
     let mut i = m;
     while i != 0 {
         if generation[i - 1] == 0 {
-            let slot = i as u16;
             if earliest_free == 0 {
-                next[i - 1] = slot;
+                next[i - 1] = i as u16;
             } else {
-                next[i - 1] = earliest_free;
+                next[i - 1] = earliest_free as u16;
             }
-            earliest_free = slot;
+            earliest_free = i;
         }
         i -= 1;
     }
-    earliest_free
+    earliest_free as u16
 }
 
 // Pops the free end slots and lists the other free slots anew, on an arena that passed the check.

@@ -5,17 +5,16 @@ use mathlib.Core.Path.{_≡_, refl, _∙_}
 use native.Mathlib.Nat.{zero-add}
 use native.Mathlib.Numerals.{add-one}
 use native.Mathlib.Omega.{arith}
-use lib.ListN.{length, set, drop, length-set, length-append, length-map}
-use lib.Seq.{drop-cons, set-append-seam, append-snoc}
+use lib.ListN.{length, set, length-set, length-map}
 use Rattle.definitions.proofs.Slots.{slots-snoc, length-slots}
 use Rattle.definitions.proofs.Tests.{tests}
+use Rattle.definitions.proofs.Written.{written-more}
 use Rattle.definitions.specs.Arena.{Arena}
 use Rattle.definitions.specs.Check.{WellFormed}
 use Rattle.definitions.specs.Columns.{slotsFrom, written}
 use Rattle.definitions.specs.Reply.{reply}
 use Rattle.definitions.specs.Run.{Command, commandAt, commandWords, applied, answersOf, run}
-use Rattle.kept.proofs.Runs.{run-goes-on, answers-go-on, an-answer-each}
-use Rattle.kept.proofs.Runs.{applied-keeps}
+use Rattle.kept.proofs.Runs.{run-goes-on, answers-go-on, an-answer-each, applied-keeps}
 use Rattle.chain_run.specs.Commands.{Applied, AllApplied}
 
 -- the first i commands of the words ws
@@ -27,14 +26,6 @@ one-more ws i = rw (add-one i, slots-snoc 0 i, map-append, zero-add i) refl
 
 how-many : (ws : List ℕ) (i : ℕ) → length (firstCommands ws i) ≡ i
 how-many ws i = length-map (slotsFrom 0 i) (commandAt ws) ∙ length-slots 0 i
-
--- one word more at the front of a lent slice
-written-next : (ws old : List ℕ) (i x : ℕ) → length ws ≡ i → i < length old → set (written ws old) i x ≡ written (ws ++ (x ∷ [])) old
-unfolding written
-written-next ws old i x e h = rw (← e) (go (omega arith))
-  where
-    go : length ws < length old → set (ws ++ drop (length ws) old) (length ws) x ≡ (ws ++ (x ∷ [])) ++ drop (length (ws ++ (x ∷ []))) old
-    go l = rw (drop-cons old (length ws) 0, set-append-seam, length-append, add-one, append-snoc) refl
 
 -- column by column as long
 pub record AsLong (a b : Arena) : Type 0 where
@@ -79,7 +70,7 @@ module _ (top : ℕ) (a₀ : Arena) (ws old : List ℕ) where
         arena = s .arena ∙ rw (one-more ws i, run-goes-on top a₀ (firstCommands ws i) (commandAt ws i ∷ []), ← g .arena, e) refl;
         answers =
             rw (one-more ws i, answers-go-on top a₀ (firstCommands ws i) (commandAt ws i ∷ []), ← g .arena, ← e, ← s .answer, g .answers)
-            (written-next before old i r count (omega arith));
+            (written-more before old i (r ∷ []) count (omega arith));
         many = length-set told i r ∙ g .many;
         long = record {
           prev = m .prev ∙ w .prev;

@@ -1,7 +1,7 @@
 pub mod Place
 pub mod Numbers
-pub mod Carrying
 pub mod Renewing
 pub mod Names
+pub mod Moving
 pub mod Relocated
 pub mod Passed

@@ -6,10 +6,10 @@ use mathlib.Core.List.{List, []}
 use native.Mathlib.Omega.{arith}
 use native.Mathlib.Decide.{ℕ-discrete}
 use lib.ListN.{length, getD, set}
-use lib.Seq.{getD-set-same}
+use lib.Seq.{set-getD, getD-set-same, getD-set-other}
 use borrow.Author.Tests.{lt-ltb, le-ltb}
 use Rattle.definitions.specs.Columns.{at, written}
-use Rattle.definitions.specs.Arena.{Arena, arena, capacityLimit, headerWords, stackLength, linkCount, withStackLength, withLinkCount, withRoot, linkSlots, isLink}
+use Rattle.definitions.specs.Arena.{Arena, arena, capacityLimit, headerWords, stackLength, linkCount, withStackLength, withLinkCount, withRoot, withCurrent, linkSlots, isLink}
 use Rattle.definitions.specs.Check.{verdict, WellFormed, Neighbour}
 use Rattle.definitions.specs.Reply.{reply}
 use Rattle.definitions.specs.Compress.{compressGeneration, compressNumber, compressedHeader, relocate, movesOf, compressWith}
@@ -25,7 +25,7 @@ neighbour-within a back x s h = go (ℕ-discrete s 0)
     go (yes z) = omega arith
     go (no d) = allocated-within (a .generation) (stackLength a) s (h d .0)
 
-pub compressible : (a : Arena) → verdict capacityLimit a ≡ 0 → (r : ℕ) → 4 * linkCount a ≤ r → Compressible (a .prev) (a .next) (a .generation) (a .payload) (stackLength a) r
+pub compressible : (a : Arena) → verdict capacityLimit a ≡ 0 → (r : ℕ) → 4 * linkCount a ≤ r → Compressible (a .prev) (a .next) (a .generation) (a .payload) (stackLength a) (linkCount a) r
 compressible a v r h =
     let ok = well-formed-if-passes capacityLimit a v in
     record {
@@ -36,7 +36,8 @@ compressible a v r h =
       payload-within = omega (arith, ok .within, ok .payload-length);
       prev = λ o e. neighbour-within a (a .next) o (at (a .prev) o) (ok .prev o e);
       next = λ o e. neighbour-within a (a .prev) o (at (a .next) o) (ok .next o e);
-      room = omega (arith, ok .links, h);
+      counted = ok .links;
+      room = h;
     }
 
 -- the last word of a renewed header is the new generation
@@ -48,10 +49,17 @@ module _ (top : ℕ) (reset : Bool) (a : Arena) (report : List ℕ) where
   unfolding compressWith
   refused h = rw (lt-ltb _ _ h) refl
 
-  pub compressed : (k count g : ℕ) (h ps ns gs vs told : List ℕ) → 4 * linkCount a ≤ length report → g ≡ compressGeneration top reset a → Renewed top reset a k h
-      → arena ps ns gs vs (compressedHeader count g (a .header)) ≡ relocate (linkSlots (a .generation) (stackLength a)) g a
+  -- a compression keeps the link count
+  same-count : (g : ℕ) → withLinkCount (linkCount a) (withRoot 0 (withCurrent g (a .header))) ≡ withRoot 0 (withCurrent g (a .header))
+  same-count g =
+      let h = withRoot 0 (withCurrent g (a .header)) in
+      let word : getD h 1 0 ≡ linkCount a = getD-set-other (withCurrent g (a .header)) 2 1 0 0 (omega arith) ∙ getD-set-other (a .header) 3 1 g 0 (omega arith) in
+      ap (λ (v : ℕ). set h 1 v) (sym word) ∙ set-getD h 1 0
+
+  pub compressed : (k g : ℕ) (h ps ns gs vs told : List ℕ) → 4 * linkCount a ≤ length report → g ≡ compressGeneration top reset a → Renewed top reset a k h
+      → arena ps ns gs vs (compressedHeader (linkCount a) g (a .header)) ≡ relocate (linkSlots (a .generation) (stackLength a)) g a
       → told ≡ written (movesOf a g 1 (linkSlots (a .generation) (stackLength a))) report
-      → reply k [] (arena ps ns gs vs (withStackLength count (withLinkCount count (withRoot 0 h)))) told ≡ compressWith top reset a report
+      → reply k [] (arena ps ns gs vs (withStackLength (linkCount a) (withRoot 0 h))) told ≡ compressWith top reset a report
   unfolding compressWith
-  compressed k count g h ps ns gs vs told room e r moved reported =
-      rw (le-ltb _ _ room, r .number, r .header, ← e, reported, ← moved) refl
+  compressed k g h ps ns gs vs told room e r moved reported =
+      rw (le-ltb _ _ room, r .number, r .header, ← e, reported, ← moved, same-count g) refl

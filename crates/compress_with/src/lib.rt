@@ -3,7 +3,7 @@
 ghost use mathlib.Core.Path.{_≡_};
 ghost use mathlib.Core.List.{List, [], _∷_, _++_};
 ghost use Prim.Native.Nat.{ℕ, _+_, _*_, _≤_, _<_};
-ghost use lib.ListN.{length, getD, drop, replicate};
+ghost use lib.ListN.{length, getD, set, drop, replicate};
 ghost use lib.Seq.{sets};
 ghost use Rattle.definitions.specs.Columns.{at, written};
 ghost use Rattle.definitions.specs.Arena.{arena, capacityLimit, largestGeneration, headerWords, linkSlots};
@@ -12,7 +12,7 @@ ghost use Rattle.definitions.specs.Reply.{reply};
 ghost use Rattle.definitions.specs.Compress.{compressedHeader, relocate, movesOf, compressWith};
 ghost use Rattle.ptr.specs.Extra.{invalidationNumber};
 ghost use Rattle.compress_with.specs.Answers.{compressedNumber};
-ghost use Rattle.compress_with.specs.Moves.{Renewed, Numbered, Movable, Carried, carriedName, Full, Compressible};
+ghost use Rattle.compress_with.specs.Moves.{Renewed, Numbered, Named, newName, Movable, carried, Compressible};
 use base_freelist::inc_generation;
 use base_freelist::pop_slots;
 use ptr::Gen;
@@ -46,10 +46,10 @@ pub fn renew_generation(header: &mut [u32], reset: bool) -> InvalidationOption
         header[3] = two.0;
         return InvalidationOption::Success;
     }
-    if header[1] == 0 {
-        return InvalidationOption::Success;
+    if header[1] != 0 {
+        return inc_generation(header);
     }
-    inc_generation(header)
+    InvalidationOption::Success
 }
 
 // Writes the four words of a link behind those of count links: 'old slot, old generation, new slot, new generation'.
@@ -64,23 +64,25 @@ pub fn tell_move(report: &mut [u32], count: usize, slot: u32, old: u32, new: u32
     report[w + 3] = new;
 }
 
-// Reports every link of a stack of n slots, in slot order, and puts its new slot where its generation was. Answers how many there are.
-pub fn number_links(generation: &mut [u32], report: &mut [u32], n: usize, new: u32) -> usize
-    requires { ⌜ (n ≤ 65535) × (n ≤ length (now generation)) × (4 * length (linkSlots (now generation) n) ≤ length (now report)) ⌝ }
-    ensures { λ r. ⌜ ((ps ns vs h : List ℕ) → Numbered (arena ps ns (now (generation .entry)) vs h) n new (now (report .entry)) r (now (generation .exit)) (now (report .exit))) ⌝ }
+// Reports the links of a stack of n slots, in slot order, and puts each one's new slot where its generation was. While links are left, what is
+// reported of a free slot is written over by the next link.
+pub fn number_links(generation: &mut [u32], report: &mut [u32], n: usize, links: usize, new: u32)
+    requires { ⌜ (n ≤ 65535) × (n ≤ length (now generation)) × (links ≡ length (linkSlots (now generation) n)) × (4 * links ≤ length (now report)) ⌝ }
+    ensures { λ _. ⌜ ((ps ns vs h : List ℕ) → Numbered (arena ps ns (now (generation .entry)) vs h) n new (now (report .entry)) (now (generation .exit)) (now (report .exit))) ⌝ }
 {
     let mut count: usize = 0;
     let mut i: usize = 0;
-    while i < n {
+    while count < links {
         let old = generation[i];
+        tell_move(&mut *report, count, (i + 1) as u32, old, new);
+        let mut number: u32 = 0;
         if old != 0 {
-            tell_move(&mut *report, count, (i + 1) as u32, old, new);
             count += 1;
-            generation[i] = count as u32;
+            number = count as u32;
         }
+        generation[i] = number;
         i += 1;
     }
-    count
 }
 
 // The new slot of the link in slot s; 0 of none.
@@ -94,62 +96,55 @@ pub fn new_slot(numbers: &[u32], s: u16) -> u16
     numbers[s as usize - 1] as u16
 }
 
-// Moves the words of the links in a link column down in slot order, each neighbour under its new name.
-pub fn move_links(column: &mut [u16], numbers: &[u32], n: usize)
-    requires { ⌜ Movable (now numbers) n (now column) ⌝ }
-    ensures { λ _. ⌜ Carried (carriedName (now (numbers .entry)) (now (column .entry))) (linkSlots (now (numbers .entry)) n) n (now (column .entry)) (now (column .exit)) ⌝ }
+// Moves the words of the link in slot s to place k, its neighbours under their new names.
+pub fn move_link(
+    prev: &mut [u16],
+    next: &mut [u16],
+    payload: &mut [u32],
+    numbers: &[u32],
+    s: usize,
+    k: usize,
+)
+    requires { ⌜ (k < s) × (s ≤ length (now prev)) × (s ≤ length (now next)) × (s ≤ length (now payload)) ⌝ }
+    requires { ⌜ Named (now numbers) (at (now prev) s) ⌝ }
+    requires { ⌜ Named (now numbers) (at (now next) s) ⌝ }
+    ensures { λ _. ⌜ (now (prev .exit) ≡ set (now (prev .entry)) k (newName (now (numbers .entry)) (now (prev .entry)) s))
+        × (now (next .exit) ≡ set (now (next .entry)) k (newName (now (numbers .entry)) (now (next .entry)) s))
+        × (now (payload .exit) ≡ set (now (payload .entry)) k (at (now (payload .entry)) s)) ⌝ }
 {
-    let mut count: usize = 0;
-    let mut i: usize = 0;
-    while i < n {
-        if numbers[i] != 0 {
-            let name = new_slot(numbers, column[i]);
-            column[count] = name;
-            count += 1;
-        }
-        i += 1;
-    }
+    let i = s - 1;
+    let before = new_slot(numbers, prev[i]);
+    let after = new_slot(numbers, next[i]);
+    let word = payload[i];
+    prev[k] = before;
+    next[k] = after;
+    payload[k] = word;
 }
 
-// Moves the payloads of the links down in slot order.
-pub fn move_payloads(payload: &mut [u32], numbers: &[u32], n: usize)
-    requires { ⌜ (n ≤ length (now payload)) × (n ≤ length (now numbers)) ⌝ }
-    ensures { λ _. ⌜ Carried (at (now (payload .entry))) (linkSlots (now (numbers .entry)) n) n (now (payload .entry)) (now (payload .exit)) ⌝ }
-{
-    let mut count: usize = 0;
-    let mut i: usize = 0;
-    while i < n {
-        if numbers[i] != 0 {
-            payload[count] = payload[i];
-            count += 1;
-        }
-        i += 1;
-    }
-}
-
-// Moves the links down in slot order, each neighbour under its new name. Nothing moves where no slot is free.
+// Moves the links that the report lists down to the front. Nothing moves where no slot of the n is free.
 pub fn move_down(
     prev: &mut [u16],
     next: &mut [u16],
     payload: &mut [u32],
     numbers: &[u32],
+    report: &[u32],
     n: usize,
-    count: usize,
+    links: usize,
 )
-    requires { ⌜ Movable (now numbers) n (now prev) ⌝ }
-    requires { ⌜ Movable (now numbers) n (now next) ⌝ }
-    requires { ⌜ n ≤ length (now payload) ⌝ }
-    requires { ⌜ (count ≡ n → Full (now numbers) n) ⌝ }
-    ensures { λ _. ⌜ Carried (carriedName (now (numbers .entry)) (now (prev .entry))) (linkSlots (now (numbers .entry)) n) n (now (prev .entry)) (now (prev .exit)) ⌝ }
-    ensures { λ _. ⌜ Carried (carriedName (now (numbers .entry)) (now (next .entry))) (linkSlots (now (numbers .entry)) n) n (now (next .entry)) (now (next .exit)) ⌝ }
-    ensures { λ _. ⌜ Carried (at (now (payload .entry))) (linkSlots (now (numbers .entry)) n) n (now (payload .entry)) (now (payload .exit)) ⌝ }
+    requires { ⌜ Movable (now prev) (now next) (now payload) (now numbers) (now report) n links ⌝ }
+    ensures { λ _. ⌜ (now (prev .exit) ≡ carried (newName (now (numbers .entry)) (now (prev .entry))) (now (numbers .entry)) n (now (prev .entry)))
+        × (now (next .exit) ≡ carried (newName (now (numbers .entry)) (now (next .entry))) (now (numbers .entry)) n (now (next .entry)))
+        × (now (payload .exit) ≡ carried (at (now (payload .entry))) (now (numbers .entry)) n (now (payload .entry))) ⌝ }
 {
-    if count == n {
+    if links == n {
         return;
     }
-    move_links(prev, numbers, n);
-    move_links(next, numbers, n);
-    move_payloads(payload, numbers, n);
+    let mut k: usize = 0;
+    while k < links {
+        let s = report[4 * k] as usize;
+        move_link(&mut *prev, &mut *next, &mut *payload, numbers, s, k);
+        k += 1;
+    }
 }
 
 // Gives the first k slots the generation g.
@@ -164,7 +159,7 @@ pub fn fill_generation(generation: &mut [u32], k: usize, g: u32)
     }
 }
 
-// Moves the links of a stack of n slots down in slot order, reports them, and gives them the generation new. Answers how many there are.
+// Moves the links of a stack of n slots down in slot order, reports them, and gives them the generation new.
 pub fn compress_columns(
     prev: &mut [u16],
     next: &mut [u16],
@@ -172,27 +167,27 @@ pub fn compress_columns(
     payload: &mut [u32],
     report: &mut [u32],
     n: usize,
+    links: usize,
     new: u32,
-) -> usize
-    requires { ⌜ Compressible (now prev) (now next) (now generation) (now payload) n (length (now report)) ⌝ }
-    ensures { λ r. ⌜ r ≡ length (linkSlots (now (generation .entry)) n) ⌝ }
-    ensures { λ r. ⌜ ((h : List ℕ) → getD h 0 0 ≡ n → arena (now (prev .exit)) (now (next .exit)) (now (generation .exit)) (now (payload .exit)) (compressedHeader r new h)
+)
+    requires { ⌜ Compressible (now prev) (now next) (now generation) (now payload) n links (length (now report)) ⌝ }
+    ensures { λ _. ⌜ ((h : List ℕ) → getD h 0 0 ≡ n → arena (now (prev .exit)) (now (next .exit)) (now (generation .exit)) (now (payload .exit)) (compressedHeader links new h)
         ≡ relocate (linkSlots (now (generation .entry)) n) new (arena (now (prev .entry)) (now (next .entry)) (now (generation .entry)) (now (payload .entry)) h)) ⌝ }
-    ensures { λ r. ⌜ ((h : List ℕ) → now (report .exit)
+    ensures { λ _. ⌜ ((h : List ℕ) → now (report .exit)
         ≡ written (movesOf (arena (now (prev .entry)) (now (next .entry)) (now (generation .entry)) (now (payload .entry)) h) new 1 (linkSlots (now (generation .entry)) n)) (now (report .entry))) ⌝ }
 {
-    let count = number_links(&mut *generation, report, n, new);
+    number_links(&mut *generation, &mut *report, n, links, new);
     move_down(
         &mut *prev,
         &mut *next,
         &mut *payload,
         &*generation,
+        &*report,
         n,
-        count,
+        links,
     );
-    fill_generation(&mut *generation, count, new);
-    pop_slots(prev, next, generation, payload, count, n);
-    count
+    fill_generation(&mut *generation, links, new);
+    pop_slots(prev, next, generation, payload, links, n);
 }
 
 // Order-preserving compression of an arena that passed the check: 'links move down in slot order'.
@@ -210,15 +205,23 @@ pub fn compress_with(
         ≡ compressWith largestGeneration reset (arena (now (prev .entry)) (now (next .entry)) (now (generation .entry)) (now (payload .entry)) (now (header .entry))) (now (report .entry)) ⌝ }
 {
     let n = header[0] as usize;
-    let links = header[1] as usize;
-    if report.len() < 4 * links {
+    let links = header[1];
+    if report.len() < 4 * links as usize {
         return Compressed::NoRoom;
     }
     let renewed = renew_generation(&mut *header, reset);
     let new = header[3];
-    let count = compress_columns(prev, next, generation, payload, report, n, new);
+    compress_columns(
+        prev,
+        next,
+        generation,
+        payload,
+        report,
+        n,
+        links as usize,
+        new,
+    );
     header[2] = 0;
-    header[1] = count as u32;
-    header[0] = count as u32;
+    header[0] = links;
     Compressed::Done(renewed)
 }

@@ -3,9 +3,8 @@ use Prim.Native.Nat.{ℕ, zero, suc, _+_, _-_, _≤_, _<_}
 use mathlib.Core.Path.{_≡_, refl, sym, ap, _∙_}
 use mathlib.Core.List.{List, [], _∷_, _++_, append-assoc}
 use native.Mathlib.Omega.{arith}
-use native.Mathlib.Nat.{add-zero}
 use native.Mathlib.Numerals.{add-one}
-use lib.ListN.{length, getD, set, take, drop, length-append, length-drop}
+use lib.ListN.{length, getD, set, take, drop, length-append, length-drop, take-append-drop}
 use lib.Seq.{sets, sets-eq, take-append-seam, drop-append-add, drop-drop, getD-append-add, drop-cons, getD-drop, append-snoc}
 use Rattle.definitions.specs.Columns.{at, written}
 use Rattle.definitions.proofs.Parts.{at-append-left}
@@ -37,11 +36,11 @@ module _ (ws old : List ℕ) where
       rw (← e) (rw (length-append, add-one) (append-snoc ws (getD old (length ws) 0) (drop (suc (length ws)) old)) ∙ ap (λ (l : List ℕ). ws ++ l) (sym (drop-cons old (length ws) 0 (omega arith))))
 
   -- the words behind those at the front
-  pub written-behind : (k : ℕ) → length ws ≡ k → getD (written ws old) k 0 ≡ getD old k 0
+  pub written-behind : (j : ℕ) → length ws ≤ j → getD (written ws old) j 0 ≡ getD old j 0
   unfolding written
-  written-behind k e =
-      rw (← e) (ap (λ (i : ℕ). getD (written ws old) i 0) (sym (add-zero (length ws)))
-      ∙ (getD-append-add ws (drop (length ws) old) 0 0 ∙ (getD-drop (length ws) old 0 0 ∙ ap (λ (i : ℕ). getD old i 0) (add-zero (length ws)))))
+  written-behind j h =
+      let e : length ws + (j - length ws) ≡ j = omega arith in
+      rw (← e) (getD-append-add ws (drop (length ws) old) (j - length ws) 0 ∙ getD-drop (length ws) old (j - length ws) 0)
 
 -- the words at the front
 pub written-reads : (ws old : List ℕ) (s : ℕ) → s ≤ length ws → at (written ws old) s ≡ at ws s
@@ -53,3 +52,8 @@ pub written-rest : (ws old : List ℕ) (n : ℕ) → length ws ≤ n → drop n 
 written-rest ws old n h =
     let e : length ws + (n - length ws) ≡ n = omega arith in
     rw (← e) (behind ws old (n - length ws))
+
+-- a slice is known by its front and the words behind it
+pub written-parts : (ws now old : List ℕ) (m : ℕ) → length ws ≡ m → take m now ≡ ws → drop m now ≡ drop m old → now ≡ written ws old
+unfolding written
+written-parts ws now old m e front rest = sym (take-append-drop m now) ∙ rw (front, rest, e) refl

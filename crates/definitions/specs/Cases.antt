@@ -124,6 +124,8 @@ corners =
     -- no links: the generation stays without reset and becomes 2 with it, and the free slots go
     row (arena (4 ∷ []) (1 ∷ []) (0 ∷ []) (6 ∷ []) (1 ∷ 0 ∷ 1 ∷ 5 ∷ [])) (with (CompressCanonical false) (9 ∷ []) ∷ []) ((0 ∷ 0 ∷ []) ∷ []) (arena (0 ∷ []) (0 ∷ []) (0 ∷ []) (0 ∷ []) (0 ∷ 0 ∷ 0 ∷ 5 ∷ [])) ∷
     row (arena (4 ∷ []) (1 ∷ []) (0 ∷ []) (6 ∷ []) (1 ∷ 0 ∷ 1 ∷ 5 ∷ [])) (with (CompressWith true) [] ∷ []) ((0 ∷ []) ∷ []) (arena (0 ∷ []) (0 ∷ []) (0 ∷ []) (0 ∷ []) (0 ∷ 0 ∷ 0 ∷ 2 ∷ [])) ∷
+    -- a reset at the largest generation is no overflow
+    row (arena (0 ∷ 1 ∷ []) (2 ∷ 0 ∷ []) (5 ∷ 5 ∷ []) (11 ∷ 12 ∷ []) (2 ∷ 2 ∷ 0 ∷ 4294967295 ∷ [])) (with (CompressCanonical true) (9 ∷ 9 ∷ []) ∷ []) ((0 ∷ 1 ∷ 2 ∷ []) ∷ []) (arena (0 ∷ 1 ∷ []) (2 ∷ 0 ∷ []) (2 ∷ 2 ∷ []) (11 ∷ 12 ∷ []) (2 ∷ 2 ∷ 0 ∷ 2 ∷ [])) ∷
     []
 
 pub corners-hold : map computed corners ≡ map expected corners

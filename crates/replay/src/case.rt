@@ -26,7 +26,7 @@ fn part(words: &[u32], from: usize, count: usize) -> &[u32] {
 }
 
 // A column of the case: so many slots from a place on.
-fn slots(case: &[u32], from: usize, count: usize) -> [u16; 12]
+pub fn slots(case: &[u32], from: usize, count: usize) -> [u16; 12]
     requires { ⌜ (from ≤ 192) × (count ≤ 12) ⌝ }
     ensures { λ r. ⌜ Counts count r ⌝ }
 {
@@ -91,7 +91,27 @@ pub fn replay_case(case: &[u32]) -> bool {
     replay_copy(case, c, n, m)
 }
 
-// Makes the call of a code and writes its reply, then what the columns and the header hold afterwards; false if no call has the code.
+// Makes the call of a code and writes its reply; false if no call has the code.
+fn call(
+    code: u32,
+    prev: &mut [u16],
+    next: &mut [u16],
+    generation: &mut [u32],
+    payload: &mut [u32],
+    header: &mut [u32],
+    args: &[u32],
+    lent: &mut [u32],
+) -> bool {
+    if code <= 6 {
+        return crate::read::call(code, prev, next, generation, payload, header, args);
+    }
+    if code <= 16 {
+        return crate::edit::call(code, prev, next, generation, payload, header, args, lent);
+    }
+    crate::compress::call(code, prev, next, generation, payload, header, args, lent)
+}
+
+// Makes a call and writes its reply, then what the columns and the header hold afterwards; false if no call has the code.
 fn replay(
     code: u32,
     prev: &mut [u16],
@@ -102,7 +122,7 @@ fn replay(
     args: &[u32],
     lent: &mut [u32],
 ) -> bool {
-    if !crate::read::call(code, prev, next, generation, payload, header, args) {
+    if !call(code, prev, next, generation, payload, header, args, lent) {
         return false;
     }
     write_slots(prev);

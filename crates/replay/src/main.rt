@@ -11,6 +11,8 @@ ghost use mathlib.Core.Path.{_≡_};
 ghost use lib.ListN.{length};
 
 mod case;
+mod compress;
+mod edit;
 mod read;
 mod text;
 

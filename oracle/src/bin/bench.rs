@@ -1,60 +1,140 @@
 //! How long the exported calls take, and how long the crate takes for the same on the same inputs, in one run.
 //!
-//! `cargo run --release -p oracle --bin bench`. Both sides are optimised and take turns; the median of the rounds' ratios
-//! is what counts, since the machine's pace is the same for both within a round. Each section is one function, and `main`
-//! lists them.
+//! `cargo run --release -p oracle --bin bench`. Both sides are optimised and take turns, call by call; the median of the
+//! rounds' ratios is what counts, since the machine's pace is the same for both within a round and a call that was
+//! interrupted does not move the median. Our calls always check the arena first: where a call is measured against the crate
+//! with its own check before it, a second column has the crate without it. Each section is one function, and `main` lists
+//! them; words on the command line choose the sections that they begin.
 
+use std::cell::RefCell;
+use std::env;
 use std::hint::black_box;
 use std::time::{Duration, Instant};
 
 use oracle::compare::crate_text_found;
 use oracle::random::{self, Random, Style};
-use oracle::{Arena, LIMIT, exports};
+use oracle::{Arena, Call, LIMIT, calls, exports, model};
 
-/// How many times each side is measured.
-const ROUNDS: usize = 41;
+/// How many times each side makes its call at least, and how often where one call takes long.
+const ROUNDS: usize = 31;
+const FEW_ROUNDS: usize = 5;
 
-/// How long one measurement should take at least.
-const LEAST: Duration = Duration::from_millis(4);
+/// Short calls are made again until a row has taken so long.
+const ROW: Duration = Duration::from_millis(500);
 
 fn main() {
     if !crate_text_found() {
         println!("The crate's files are not at hand: the live comparison was skipped.");
     }
-    if exports::check(&Arena::empty(0)).is_none() {
-        println!("No level is linked: the exported calls were skipped.");
-    }
-    check_section();
-}
-
-/// The check, at 2,048 and at 65,535 slots, on arenas of several kinds.
-fn check_section() {
-    println!("check: exported call / crate's _check_invariants, nanoseconds a slot");
-    for slots in [2_048, LIMIT] {
-        for (kind, arena) in kinds(slots) {
-            let ours =
-                exports::check(&arena).map(|_| batch(|| _ = black_box(exports::check(black_box(&arena)))));
-            row(slots, kind, slots, measure(ours, crate_check(&arena)));
+    let sections: [(&str, usize, fn()); 6] = [
+        ("check", 1, check_section),
+        ("run", 2, run_section),
+        ("drain", 2, drain_section),
+        ("canonical", 3, canonical_section),
+        ("linear", 3, linear_section),
+        ("order", 3, order_section),
+    ];
+    let chosen: Vec<String> = env::args().skip(1).collect();
+    for (name, level, section) in sections {
+        if !chosen.is_empty() && !chosen.iter().any(|word| name.starts_with(word.as_str())) {
+            continue;
+        }
+        if exports::linked(level) {
+            section();
+        } else {
+            println!("{name}: level {level} is not linked, so it was not measured");
         }
     }
 }
 
-/// The crate's check of an arena.
-#[cfg(crate_text)]
-fn crate_check(arena: &Arena) -> Option<impl FnMut() -> f64 + use<>> {
-    let held = oracle::crate_side::CrateArena::hold(arena)?;
-    held.check_invariants().expect("an arena that passes");
-    Some(batch(move || _ = black_box(black_box(&held).check_invariants())))
+/// The check, at 2,048 and at 65,535 slots, on arenas of several kinds.
+fn check_section() {
+    println!("check: the exported call and the crate's _check_invariants, nanoseconds a slot");
+    for slots in [2_048, LIMIT] {
+        for (kind, arena) in checked_kinds(slots) {
+            let ours: Side = Box::new(again(|| _ = black_box(exports::check(black_box(&arena)))));
+            row(slots, kind, slots, &measure(ROUNDS, vec![Some(ours), crate_check(&arena)]));
+        }
+    }
 }
 
-/// The crate's text is not at hand.
-#[cfg(not(crate_text))]
-fn crate_check(_: &Arena) -> Option<fn() -> f64> {
-    None
+/// 100,000 mixed edits on 2,048 links: one run, its one check in its time, and the same calls on the crate, which checks
+/// nothing. The crate's commands are taken apart beforehand, and both sides write an answer for each.
+fn run_section() {
+    println!("run: 100,000 connects, breaks and exchanges on 2,048 links, nanoseconds an edit");
+    let (slots, edits) = (2_048, 100_000);
+    let style = Style { free: 0, longest: 8, even: true, scattered: true, closed: 2 };
+    let arena = alike(random::whole(&mut Random::new(1), slots, slots, style));
+    for (kind, fitting) in [("all of them done", true), ("of any links", false)] {
+        let commands = calls::mixed_edits(&mut Random::new(2), &arena, edits, fitting);
+        let ours = ours(&arena, Call::Run(commands.clone(), vec![0; edits]));
+        let theirs = crate_edits(&arena, &commands);
+        row(slots, kind, edits, &measure(ROUNDS, vec![Some(ours), theirs]));
+    }
 }
 
-/// Arenas of so many slots, all in the stack, by kind.
-fn kinds(slots: usize) -> Vec<(&'static str, Arena)> {
+/// The drain of one chain; both sides write the same report.
+fn drain_section() {
+    println!("drain: one chain, nanoseconds a link; the crate with its check before it, and without");
+    for slots in [2_048, LIMIT] {
+        for (kind, scattered) in [("one chain, in order", false), ("one chain, scattered", true)] {
+            let style = Style { free: 0, longest: slots, even: true, scattered, closed: 0 };
+            let arena = alike(random::whole(&mut Random::new(3), slots, slots, style));
+            let p = arena.ptr(1);
+            let call = Call::Drain(p, vec![0; 5 * slots]);
+            let report = &RefCell::new(vec![0; 5 * slots]);
+            compared(slots, kind, slots, ROUNDS, &arena, call, |held| {
+                held.drain_chain(p, &mut report.borrow_mut());
+            });
+        }
+    }
+}
+
+/// Canonical compression, at 2,048 and at 65,535 links. Ours also writes the where-from column, which the crate has not.
+fn canonical_section() {
+    println!("compress_canonical: nanoseconds a link; the crate with its check before it, and without");
+    for slots in [2_048, LIMIT] {
+        for (kind, arena) in compressed_kinds(slots) {
+            let call = Call::CompressCanonical(0, vec![0; slots]);
+            compared(slots, kind, arena.links(), ROUNDS, &arena, call, |held| _ = held.compress(false));
+        }
+    }
+}
+
+/// Canonical compression of lone links above as many free slots: the crate looks for the next link from the same slot again
+/// and again, the port does not.
+fn linear_section() {
+    println!("compress_canonical of lone links above as many free slots, nanoseconds a link");
+    let mut ours = Vec::new();
+    for slots in [LIMIT / 4, LIMIT / 2, LIMIT] {
+        let arena = above_free(slots);
+        let call = Call::CompressCanonical(0, vec![0; slots]);
+        let compress = |held: &mut Crate| _ = held.compress(false);
+        let medians = compared(slots, "above free slots", arena.links(), FEW_ROUNDS, &arena, call, compress);
+        ours.push(medians.nanos[0].unwrap_or(0.0));
+    }
+    let times: Vec<String> = ours.windows(2).map(|two| format!("{:.2}", two[1] / two[0])).collect();
+    println!("  twice the slots take ours {} times as long", times.join(" and "));
+}
+
+/// Order-preserving compression, at 2,048 and at 65,535 links; both sides write the same report.
+fn order_section() {
+    println!("compress_with: nanoseconds a link; the crate with its check before it, and without");
+    for slots in [2_048, LIMIT] {
+        for (kind, arena) in compressed_kinds(slots) {
+            let call = Call::CompressWith(0, vec![0; 4 * slots]);
+            let report = &RefCell::new(vec![0; 4 * slots]);
+            compared(slots, kind, arena.links(), ROUNDS, &arena, call, |held| {
+                held.compress_with(false, &mut report.borrow_mut());
+            });
+        }
+    }
+}
+
+// The arenas.
+
+/// Arenas of so many slots, all in the stack, by kind, to be checked.
+fn checked_kinds(slots: usize) -> Vec<(&'static str, Arena)> {
     let style = |free, longest, scattered| Style { free, longest, even: true, scattered, closed: 2 };
     let mut r = Random::new(slots as u64);
     let mut arena = |style| random::whole(&mut r, slots, slots, style);
@@ -69,45 +149,124 @@ fn kinds(slots: usize) -> Vec<(&'static str, Arena)> {
     kinds
 }
 
-// Measuring. A side is a closure that makes its call and answers the nanoseconds of it; what it sets up is its own affair.
+/// Arenas of so many slots, all in the stack, by kind, to be compressed.
+fn compressed_kinds(slots: usize) -> Vec<(&'static str, Arena)> {
+    let style = |longest, scattered| Style { free: 0, longest, even: true, scattered, closed: 0 };
+    let mut r = Random::new(slots as u64);
+    let mut arena = |style| alike(random::whole(&mut r, slots, slots, style));
+    let mut kinds = vec![
+        ("lone links", arena(style(1, false))),
+        ("one chain, in order", arena(style(slots, false))),
+        ("chains of eight, scattered", arena(style(8, true))),
+        ("one chain, scattered", arena(style(slots, true))),
+    ];
+    kinds.push(("mixed, an eighth free", random::mixed(&mut r, slots)));
+    kinds
+}
 
-/// What was measured: the median nanoseconds of one call of each side, and the median of the rounds' ratios.
+/// Lone links in the upper half of the slots, the lower half free.
+fn above_free(slots: usize) -> Arena {
+    let mut a = Arena::empty(slots);
+    let free = slots / 2;
+    for s in 1..=slots {
+        if s <= free {
+            a.next[s - 1] = if s == free { s } else { s + 1 } as u16;
+        } else {
+            (a.generation[s - 1], a.payload[s - 1]) = (5, s as u32);
+        }
+    }
+    a.header = vec![slots as u32, (slots - free) as u32, 1, 5];
+    a
+}
+
+/// The arena with generation 5 for all its links and the header.
+fn alike(mut a: Arena) -> Arena {
+    a.generation.fill(5);
+    a.header[oracle::header::GENERATION] = 5;
+    assert_eq!(model::check(&a), 0);
+    a
+}
+
+// Measuring. A side is a closure that makes its call once and answers the nanoseconds of it; what it sets up before is its
+// own affair and is not timed.
+
+type Side<'a> = Box<dyn FnMut() -> f64 + 'a>;
+
+/// What was measured: the median nanoseconds of one call of each side, and for each side but the first, which is ours, the
+/// median over the rounds of ours divided by its.
 struct Medians {
-    ours: Option<f64>,
-    theirs: Option<f64>,
-    ratio: Option<f64>,
+    nanos: Vec<Option<f64>>,
+    ratios: Vec<Option<f64>>,
 }
 
-/// Measures both sides in turns, whichever are there.
-fn measure(mut ours: Option<impl FnMut() -> f64>, mut theirs: Option<impl FnMut() -> f64>) -> Medians {
-    let (mut of_ours, mut of_theirs) = (Vec::new(), Vec::new());
-    for round in 0..ROUNDS {
-        for ours_now in [round % 2 == 0, round % 2 != 0] {
-            if ours_now {
-                of_ours.extend(ours.as_mut().map(|side| side()));
-            } else {
-                of_theirs.extend(theirs.as_mut().map(|side| side()));
-            }
+/// Measures the sides in turns, whichever are there.
+fn measure(rounds: usize, mut sides: Vec<Option<Side>>) -> Medians {
+    let mut times = vec![Vec::new(); sides.len()];
+    let began = Instant::now();
+    let mut round = 0;
+    while round < rounds || (rounds == ROUNDS && began.elapsed() < ROW) {
+        for turn in 0..sides.len() {
+            let side = (round + turn) % sides.len();
+            times[side].extend(sides[side].as_mut().map(|side| side()));
         }
+        round += 1;
     }
-    let ratios = of_ours.iter().zip(&of_theirs).map(|(ours, theirs)| ours / theirs).collect();
-    Medians { ours: median(of_ours), theirs: median(of_theirs), ratio: median(ratios) }
+    let ratio = |theirs: &Vec<f64>| median(times[0].iter().zip(theirs).map(|(a, b)| a / b).collect());
+    Medians {
+        nanos: times.iter().map(|of_side| median(of_side.clone())).collect(),
+        ratios: times[1..].iter().map(ratio).collect(),
+    }
 }
 
-/// A side whose call changes nothing: it is made again and again until one measurement is long enough.
-fn batch(mut call: impl FnMut()) -> impl FnMut() -> f64 {
-    let mut time = move |repeats: u32| {
-        let start = Instant::now();
-        for _ in 0..repeats {
-            call();
-        }
-        start.elapsed()
+/// Measures a call that changes the arena against the crate's, with its check before it and without, and prints the row.
+fn compared(
+    slots: usize,
+    kind: &str,
+    items: usize,
+    rounds: usize,
+    arena: &Arena,
+    call: Call,
+    theirs: impl Fn(&mut Crate) + Copy,
+) -> Medians {
+    let checked = move |held: &mut Crate| {
+        held.check_invariants().expect("an arena that passes");
+        theirs(held);
     };
-    let mut repeats = 1;
-    while time(repeats) < LEAST {
-        repeats *= 2;
+    let sides = vec![Some(ours(arena, call)), crate_side(arena, checked), crate_side(arena, theirs)];
+    let medians = measure(rounds, sides);
+    row(slots, kind, items, &medians);
+    medians
+}
+
+/// Our side of a call that changes the arena.
+fn ours(arena: &Arena, mut call: Call) -> Side<'_> {
+    Box::new(fresh(
+        || arena.clone(),
+        move |arena| {
+            let reply = exports::perform(arena, black_box(&mut call)).expect("a level that is linked");
+            assert_eq!(reply.number, 0);
+        },
+    ))
+}
+
+/// A side whose call changes nothing: it is made once before it is timed.
+fn again(mut call: impl FnMut()) -> impl FnMut() -> f64 {
+    move || {
+        call();
+        let start = Instant::now();
+        call();
+        start.elapsed().as_nanos() as f64
     }
-    move || time(repeats).as_nanos() as f64 / f64::from(repeats)
+}
+
+/// A side whose call changes what it is made on: each call gets a copy of its own.
+fn fresh<T>(make: impl Fn() -> T, mut call: impl FnMut(&mut T)) -> impl FnMut() -> f64 {
+    move || {
+        let mut copy = make();
+        let start = Instant::now();
+        call(black_box(&mut copy));
+        start.elapsed().as_nanos() as f64
+    }
 }
 
 /// The value in the middle.
@@ -116,14 +275,75 @@ fn median(mut values: Vec<f64>) -> Option<f64> {
     values.get(values.len() / 2).copied()
 }
 
-/// Prints one row: both sides by the item, and the ratio.
-fn row(slots: usize, kind: &str, items: usize, medians: Medians) {
-    let shown = |number: Option<f64>| number.map_or("-".to_string(), |number| format!("{number:.2}"));
+/// Prints one row: each side by the item, and the ratios.
+fn row(slots: usize, kind: &str, items: usize, medians: &Medians) {
+    let digits = |number: f64| if number < 0.01 { 4 } else { 2 };
+    let shown = |number: Option<f64>| number.map_or("-".to_string(), |n| format!("{n:.*}", digits(n)));
     let each = |nanos: Option<f64>| shown(nanos.map(|nanos| nanos / items as f64));
-    println!(
-        "  {slots:>6}  {kind:<28} ours {:>6}  crate {:>6}  ratio {:>5}",
-        each(medians.ours),
-        each(medians.theirs),
-        shown(medians.ratio)
-    );
+    print!("  {slots:>6}  {kind:<28} ours {:>6}", each(medians.nanos[0]));
+    let names = ["crate", "without"];
+    for ((name, nanos), ratio) in names.iter().zip(&medians.nanos[1..]).zip(&medians.ratios) {
+        print!("  {name} {:>6}  ratio {:>6}", each(*nanos), shown(*ratio));
+    }
+    println!();
+}
+
+// The crate's sides.
+
+#[cfg(crate_text)]
+type Crate = oracle::crate_side::CrateArena;
+
+/// The crate's check of an arena.
+#[cfg(crate_text)]
+fn crate_check(arena: &Arena) -> Option<Side<'_>> {
+    let held = Crate::hold(arena)?;
+    held.check_invariants().expect("an arena that passes");
+    Some(Box::new(again(move || _ = black_box(black_box(&held).check_invariants()))))
+}
+
+/// The crate's side of a call that changes the arena.
+#[cfg(crate_text)]
+fn crate_side<'a>(arena: &'a Arena, call: impl Fn(&mut Crate) + 'a) -> Option<Side<'a>> {
+    Some(Box::new(fresh(|| Crate::hold(arena).expect("an arena that passes"), call)))
+}
+
+/// The crate's side of a run.
+#[cfg(crate_text)]
+fn crate_edits<'a>(arena: &'a Arena, commands: &[u32]) -> Option<Side<'a>> {
+    let edits = oracle::crate_side::Edit::of(commands)?;
+    let answers = RefCell::new(vec![0; edits.len()]);
+    crate_side(arena, move |held| held.edit(black_box(&edits), &mut answers.borrow_mut()))
+}
+
+// The crate's text is not at hand.
+
+#[cfg(not(crate_text))]
+struct Crate;
+
+#[cfg(not(crate_text))]
+impl Crate {
+    fn check_invariants(&self) -> Result<(), &'static str> {
+        Ok(())
+    }
+
+    fn drain_chain(&mut self, _: oracle::Ptr, _: &mut [u32]) {}
+
+    fn compress_with(&mut self, _: bool, _: &mut [u32]) {}
+
+    fn compress(&mut self, _: bool) {}
+}
+
+#[cfg(not(crate_text))]
+fn crate_check(_: &Arena) -> Option<Side<'_>> {
+    None
+}
+
+#[cfg(not(crate_text))]
+fn crate_side<'a>(_: &'a Arena, _: impl Fn(&mut Crate) + 'a) -> Option<Side<'a>> {
+    None
+}
+
+#[cfg(not(crate_text))]
+fn crate_edits<'a>(_: &'a Arena, _: &[u32]) -> Option<Side<'a>> {
+    None
 }

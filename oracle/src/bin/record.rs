@@ -16,14 +16,11 @@ use std::path::Path;
 use oracle::calls::some_call;
 use oracle::compare::{Outcome, crate_number, crate_outcome, crate_text_found};
 use oracle::random::{self, Random};
-use oracle::{Arena, Call, Reply, cases};
+use oracle::{Arena, Call, Ptr, Reply, cases};
 
 /// The most slots of a case, and the most words of its arguments or of the slice that it lends.
 const SLOTS: usize = 12;
 const WORDS: usize = 64;
-
-/// The calls that are exported today, by their codes: 1 to this.
-const CODES: usize = 6;
 
 /// How many cases are tried.
 const SEEDS: u64 = 200_000;
@@ -34,7 +31,7 @@ fn main() {
         std::process::exit(1);
     }
     let small: Vec<Vec<Arena>> = (0..=5).map(cases::small_arenas).collect();
-    let mut kept: BTreeMap<(usize, u32), Vec<[String; 2]>> = BTreeMap::new();
+    let mut kept: BTreeMap<(usize, u32, Corner), Vec<[String; 2]>> = BTreeMap::new();
     for seed in 0..SEEDS {
         let mut r = Random::new(seed);
         let before = some_arena(&mut r, &small);
@@ -42,7 +39,7 @@ fn main() {
         let Some(case) = case_line(&before, &call) else { continue };
         let Some(after) = crate_answer(&before, &call) else { continue };
         let (code, number) = (code_of(&call), after.reply.number);
-        let cases = kept.entry((code, number)).or_default();
+        let cases = kept.entry((code, number, corner(&before, &call, number))).or_default();
         if cases.len() < wanted(code, number) {
             cases.push([case, answer_line(&after)]);
         }
@@ -50,10 +47,14 @@ fn main() {
     for (file, name) in ["stdin", "stdout"].into_iter().enumerate() {
         write(name, &kept.values().flatten().map(|lines| lines[file].as_str()).collect::<String>());
     }
-    for ((code, number), cases) in &kept {
-        println!("call {code} answered {number}: {} cases", cases.len());
+    let mut counts: BTreeMap<usize, BTreeMap<u32, usize>> = BTreeMap::new();
+    for ((code, number, _), cases) in &kept {
+        *counts.entry(*code).or_default().entry(*number).or_default() += cases.len();
     }
-    println!("{} cases", kept.values().map(Vec::len).sum::<usize>());
+    for (code, numbers) in &counts {
+        println!("call {code}, cases by number: {numbers:?}");
+    }
+    println!("{} cases in all", kept.values().map(Vec::len).sum::<usize>());
 }
 
 /// Writes one of the program's files.
@@ -77,16 +78,55 @@ fn some_arena(r: &mut Random, small: &[Vec<Arena>]) -> Arena {
     }
 }
 
-/// How many cases of a call with a number are kept.
+/// What is special about a case.
+#[derive(Clone, Copy, PartialEq, Eq, PartialOrd, Ord)]
+enum Corner {
+    None,
+    /// The two pointers are one
+    SamePointers,
+    /// The pointer's link is alone in a closed chain
+    ClosedAlone,
+    /// The pointer's slot is the last of the stack
+    LastSlot,
+    /// The arena has no links
+    NoLinks,
+    /// The last slot of the stack is free
+    FreeEnd,
+}
+
+/// What is special about a case on an arena that passes the check.
+fn corner(before: &Arena, call: &Call, number: u32) -> Corner {
+    if (1..=11).contains(&number) {
+        return Corner::None;
+    }
+    let (stack, pointers) = (before.stack(), pointers(call));
+    let Some(p) = pointers.first() else {
+        return match before.is_link(stack) {
+            _ if before.links() == 0 => Corner::NoLinks,
+            false => Corner::FreeEnd,
+            true => Corner::None,
+        };
+    };
+    let slot = usize::from(p.slot);
+    if pointers.get(1) == Some(p) {
+        Corner::SamePointers
+    } else if before.is_link(slot) && before.next[slot - 1] == p.slot {
+        Corner::ClosedAlone
+    } else if slot == stack {
+        Corner::LastSlot
+    } else {
+        Corner::None
+    }
+}
+
+/// How many cases of a call with a number are kept for each corner.
 fn wanted(code: usize, number: u32) -> usize {
     match (code, number) {
-        (code, _) if code > CODES => 0,
-        (1, 0) => 8,
+        (6, 0) => 10,
+        (16 | 18, 0) => 6,
+        (_, 0) => 4,
         (1, _) => 5,
-        (6, 0) => 30,
-        (16 | 18, 0) => 20,
-        (_, 0) => 12,
-        (_, 12 | 13 | 100) => 4,
+        (_, 12 | 13 | 100) => 2,
         _ => 1,
     }
 }
@@ -147,25 +187,30 @@ fn fields(call: &Call) -> usize {
     }
 }
 
-/// The words of the call's arguments.
-fn arguments(call: &Call) -> Vec<u32> {
+/// The call's pointers.
+fn pointers(call: &Call) -> Vec<Ptr> {
     match call {
-        Call::Check | Call::IncGeneration | Call::CanonicalizeFreelist => vec![],
         Call::GetLink(p)
         | Call::GetLinkNoGen(p)
         | Call::WalkStart(p)
         | Call::BreakPrev(p)
         | Call::BreakNext(p)
         | Call::Remove(p)
-        | Call::Drain(p, _) => vec![p.slot.into(), p.generation],
-        Call::AreNeighbors(p, q) | Call::Connect(p, q) | Call::ExchangeNext(p, q) => {
-            vec![p.slot.into(), p.generation, q.slot.into(), q.generation]
-        }
+        | Call::Drain(p, _) => vec![*p],
+        Call::AreNeighbors(p, q) | Call::Connect(p, q) | Call::ExchangeNext(p, q) => vec![*p, *q],
+        _ => vec![],
+    }
+}
+
+/// The words of the call's arguments.
+fn arguments(call: &Call) -> Vec<u32> {
+    match call {
         Call::WalkStep(walk) => vec![walk.start, walk.position, walk.direction, walk.left],
         Call::SetGeneration(word) | Call::CompressWith(word, _) | Call::CompressCanonical(word, _) => {
             vec![*word]
         }
         Call::Run(commands, _) => commands.clone(),
+        _ => pointers(call).iter().flat_map(|p| [p.slot.into(), p.generation]).collect(),
     }
 }
 
@@ -219,8 +264,8 @@ fn answer_line(after: &Outcome) -> String {
 
 #[cfg(test)]
 mod tests {
+    use oracle::Walk;
     use oracle::compare::model_outcome;
-    use oracle::{Ptr, Walk};
 
     use super::*;
 

@@ -10,8 +10,6 @@ use Rattle.definitions.proofs.Columns.{at-place, put-place}
 use Rattle.base_freelist.proofs.Threaded.{Relisting, relisting-starts, relisting-passes, relisting-lists, points-at-itself, points-at-earliest, relisted}
 use Rattle.base_freelist.proofs.relist.Statement.{statement}
 use Rattle.base_freelist.proofs.relist.Tie as tie
-use Rattle.base_freelist.proofs.relist.Reads as reads
-use Rattle.base_freelist.proofs.relist.Lts as lts
 
 abbrev Inv-loop : tie.InvT-loop
 Inv-loop next₀ generation m earliest-free₀ i₀ next earliest-free i = Relisting generation next₀ m i next earliest-free
@@ -31,8 +29,8 @@ mul-if1 c = search needs
 shared-slice-read-if1 : tie.Need-shared-slice-read-if1 Inv-loop μ-loop
 shared-slice-read-if1 c = search needs
 
-cast-slot : tie.Need-cast-slot Inv-loop μ-loop
-cast-slot c = search needs
+cast-next : tie.Need-cast-next Inv-loop μ-loop
+cast-next c = search needs
 
 sub-next : tie.Need-sub-next Inv-loop μ-loop
 sub-next c = search needs
@@ -42,6 +40,9 @@ mul-next c = search needs
 
 slice-write-next : tie.Need-slice-write-next Inv-loop μ-loop
 slice-write-next c = search needs
+
+cast-next-2 : tie.Need-cast-next-2 Inv-loop μ-loop
+cast-next-2 c = search needs
 
 sub-next-2 : tie.Need-sub-next-2 Inv-loop μ-loop
 sub-next-2 c = search needs
@@ -67,6 +68,9 @@ loop-again c =
     (λ w. rw (w .1, w .2) (relisting-passes _ _ _ _ _ _ inv some (λ z. w .0 .left (at-place _ _ some ∙ z)))))
     (c .if1 .came)
 
+cast-result : tie.Need-cast-result Inv-loop μ-loop
+cast-result c = search needs
+
 same-length : tie.Need-same-length Inv-loop μ-loop
 same-length c = search needs
 
@@ -83,15 +87,17 @@ relist-spec =
     sub-if1
     mul-if1
     shared-slice-read-if1
-    cast-slot
+    cast-next
     sub-next
     mul-next
     slice-write-next
+    cast-next-2
     sub-next-2
     mul-next-2
     slice-write-next-2
     sub-i
     loop-less
     loop-again
+    cast-result
     same-length
     returns)

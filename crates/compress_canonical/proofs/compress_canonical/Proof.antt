@@ -1,55 +1,41 @@
+-- `compress_canonical::compress_canonical` meets its contract: laid out, renewed and shrunk, the arena is the definition's (Canonical). The check gives every
+-- bound. Assumes nothing.
 use borrow.Author.Needs.{needs}
 use Rattle.definitions.proofs.Shaped.{shaped}
 use Rattle.compress_canonical.proofs.Canonical.{stacked-if-passed, refused, shrinkable, compressed}
 use Rattle.compress_canonical.proofs.compress_canonical.Statement.{statement}
 use Rattle.compress_canonical.proofs.compress_canonical.Tie as tie
-use Rattle.compress_canonical.proofs.compress_canonical.Reads as reads
-use Rattle.compress_canonical.proofs.compress_canonical.Lts as lts
-use Rattle.compress_canonical.proofs.lay_out.Reads as lay-out-reads
-use Rattle.compress_canonical.proofs.shrink.Reads as shrink-reads
-use Rattle.compress_with.proofs.renew_generation.Reads as renew-generation-reads
 
--- src/lib.rt:342:9
 returns : tie.Need-returns
 returns c = refused _ _ _ _ (c .if1 .taken)
 
--- src/lib.rt:344:5
 lay-out-requires : tie.Need-lay-out-requires
 lay-out-requires c κs = stacked-if-passed _ _ (c .before .before .before .before .before .before .before .before .before .before .before .before .before .pre) (c .before .before .before .before .before .before .if1 .left)
 
--- src/lib.rt:345:9
 renew-generation-requires : tie.Need-renew-generation-requires
 renew-generation-requires c κs = shaped _ _ (c .before .before .before .before .before .before .before .before .before .before .before .before .before .before .before .before .before .before .before .before .before .before .before .pre) .header
 
--- src/lib.rt:346:5
 shrink-requires : tie.Need-shrink-requires
 shrink-requires c κs = shrinkable _ _ _ _ (c .before .before .before .before .before .before .before .before .before .before .before .before .before .before .before .before .before .before .before .before .before .before .before .before .before .before .before .before .before .before .before .pre) _ (c .before .before .before .before .before .before .before .before .before .before .before .before .before .before .before .before .before .lay-out .ensures) _ _ (c .before .before .before .before .before .before .before .renew-generation .ensures _ _ _ _)
 
--- src/lib.rt:328:1
 same-length : tie.Need-same-length
 same-length c = search needs
 
--- src/lib.rt:328:1
 same-length-2 : tie.Need-same-length-2
 same-length-2 c = search needs
 
--- src/lib.rt:328:1
 same-length-3 : tie.Need-same-length-3
 same-length-3 c = search needs
 
--- src/lib.rt:328:1
 same-length-4 : tie.Need-same-length-4
 same-length-4 c = search needs
 
--- src/lib.rt:328:1
 same-length-5 : tie.Need-same-length-5
 same-length-5 c = search needs
 
--- src/lib.rt:328:1
 same-length-6 : tie.Need-same-length-6
 same-length-6 c = search needs
 
--- src/lib.rt:328:1
 returns-2 : tie.Need-returns-2
 returns-2 c =
     compressed _ _ _ _ (c .before .before .before .before .before .before .before .before .before .before .before .before .before .before .before .before .before .before .before .before .before .before .before .before .before .before .before .before .before .before .before .before .before .before .before .before .before .before .before .before .before .before .pre) _ (c .before .before .before .before .before .before .before .before .before .before .before .before .before .before .before .before .before .before .before .before .before .before .before .before .before .before .before .before .lay-out .ensures) _ _ (c .before .before .before .before .before .before .before .before .before .before .before .before .before .before .before .before .before .before .renew-generation .ensures _ _ _ _) (c .before .before .before .before .before .before .before .before .before .before .before .before .before .before .before .before .before .before .before .before .before .before .before .before .before .before .before .before .before .before .before .before .before .before .before .if1 .left) _ (c .before .before .before .before .before .before .before .before .before .before .shrink .ensures)

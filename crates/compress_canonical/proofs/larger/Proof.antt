@@ -1,16 +1,13 @@
+-- `compress_canonical::larger` meets its contract. Assumes nothing.
 use mathlib.Core.Path.{refl}
 use mathlib.Core.Logic.{inl, inr}
 use native.Mathlib.Omega.{arith}
 use Rattle.compress_canonical.proofs.larger.Statement.{statement}
 use Rattle.compress_canonical.proofs.larger.Tie as tie
-use Rattle.compress_canonical.proofs.larger.Reads as reads
-use Rattle.compress_canonical.proofs.larger.Lts as lts
 
--- src/lib.rt:196:9
 returns : tie.Need-returns
 returns c = record { left = omega arith; right = omega arith; one = inr refl }
 
--- src/lib.rt:192:1
 returns-2 : tie.Need-returns-2
 returns-2 c = record { left = omega arith; right = omega arith; one = inl refl }
 

@@ -1,3 +1,5 @@
+-- `compress_canonical::lay_chain` meets its contract. The loop's invariant: for whatever arena is being laid out, the definition is on its way at the state that
+-- the columns hold (ChainInPlace). The measure is the number of slots that are left. Assumes nothing.
 use Prim.Native.Nat.{_+_, _-_}
 use mathlib.Core.Path.{_≡_, refl}
 use mathlib.Core.Logic.{inl, inr}
@@ -9,9 +11,6 @@ use Rattle.compress_canonical.proofs.LinkInPlace.{place-small}
 use Rattle.compress_canonical.proofs.ChainInPlace.{Going, going-starts, going-chain, going-below, going-on, going-over}
 use Rattle.compress_canonical.proofs.lay_chain.Statement.{statement}
 use Rattle.compress_canonical.proofs.lay_chain.Tie as tie
-use Rattle.compress_canonical.proofs.lay_chain.Reads as reads
-use Rattle.compress_canonical.proofs.lay_chain.Lts as lts
-use Rattle.compress_canonical.proofs.lay_link.Reads as lay-link-reads
 
 abbrev Inv-loop : tie.InvT-loop
 Inv-loop prev₀ next₀ payload₀ where-from₀ laid first count₀ t₀ prev next payload where-from count t =
@@ -21,71 +20,54 @@ abbrev μ-loop : tie.MeasureT-loop
 μ-loop prev₀ next₀ payload₀ where-from₀ laid first count₀ t₀ prev next payload where-from count t =
     length where-from - count
 
--- src/lib.rt:139:23
 add-t10 : tie.Need-add-t10 Inv-loop μ-loop
 add-t10 c = let ready = c .before .before .before .before .pre in omega (arith, place-small (ready .0) (ready .1) (ready .1 .i) _ _ _ (ready .2))
 
--- src/lib.rt:139:22
 cast-t11 : tie.Need-cast-t11 Inv-loop μ-loop
 cast-t11 c = let ready = c .before .before .before .before .pre in omega (arith, place-small (ready .0) (ready .1) (ready .1 .i) _ _ _ (ready .2))
 
--- src/lib.rt:142:5
 loop-holds : tie.Need-loop-holds Inv-loop μ-loop
 loop-holds c = (omega arith, going-starts _ _ _, refl)
 
--- src/lib.rt:143:9
 lay-link-requires : tie.Need-lay-link-requires Inv-loop μ-loop
 lay-link-requires c κs = going-chain (c .before .before .before .before .loop .inv .1) (c .before .before .before .before .before .before .before .before .before .pre)
 
--- src/lib.rt:144:9
 add-count : tie.Need-add-count Inv-loop μ-loop
 add-count c = omega (arith, going-below (c .before .before .before .before .before .before .before .before .before .before .before .before .before .loop .inv .1) (c .before .before .before .before .before .before .before .before .before .before .before .before .before .before .before .before .before .before .pre) .1)
 
--- src/lib.rt:146:13
 same-length : tie.Need-same-length Inv-loop μ-loop
 same-length c = search needs
 
--- src/lib.rt:146:13
 same-length-2 : tie.Need-same-length-2 Inv-loop μ-loop
 same-length-2 c = search needs
 
--- src/lib.rt:146:13
 same-length-3 : tie.Need-same-length-3 Inv-loop μ-loop
 same-length-3 c = search needs
 
--- src/lib.rt:146:13
 same-length-4 : tie.Need-same-length-4 Inv-loop μ-loop
 same-length-4 c = search needs
 
--- src/lib.rt:146:13
 returns : tie.Need-returns Inv-loop μ-loop
 returns c = going-over (c .before .before .before .before .before .before .before .before .before .before .before .before .before .before .before .loop .inv .1) _ _ _ (c .before .before .before .before .before .before .before .before .before .before .before .before .before .before .before .loop .inv .2) (c .before .before .before .before .before .before .before .before .before .before .lay-link .ensures) (inl (c .if1 .taken))
 
--- src/lib.rt:150:13
 same-length-5 : tie.Need-same-length-5 Inv-loop μ-loop
 same-length-5 c = search needs
 
--- src/lib.rt:150:13
 same-length-6 : tie.Need-same-length-6 Inv-loop μ-loop
 same-length-6 c = search needs
 
--- src/lib.rt:150:13
 same-length-7 : tie.Need-same-length-7 Inv-loop μ-loop
 same-length-7 c = search needs
 
--- src/lib.rt:150:13
 same-length-8 : tie.Need-same-length-8 Inv-loop μ-loop
 same-length-8 c = search needs
 
--- src/lib.rt:150:13
 returns-2 : tie.Need-returns-2 Inv-loop μ-loop
 returns-2 c = going-over (c .before .before .before .before .before .before .before .before .before .before .before .before .before .before .before .before .before .before .loop .inv .1) _ _ _ (c .before .before .before .before .before .before .before .before .before .before .before .before .before .before .before .before .before .before .loop .inv .2) (c .before .before .before .before .before .before .before .before .before .before .before .before .before .lay-link .ensures) (inr (c .if2 .taken))
 
--- src/lib.rt:142:5
 loop-less : tie.Need-loop-less Inv-loop μ-loop
 loop-less c = omega (arith, c .before .before .before .before .before .before .before .before .before .before .before .before .before .lay-link .kept, going-below (c .before .before .before .before .before .before .before .before .before .before .before .before .before .before .before .before .before .before .loop .inv .1) (c .before .before .before .before .before .before .before .before .before .before .before .before .before .before .before .before .before .before .before .before .before .before .before .pre) .0)
 
--- src/lib.rt:142:5
 loop-again : tie.Need-loop-again Inv-loop μ-loop
 loop-again c = (
   omega (arith, c .before .before .before .before .before .before .before .before .before .before .before .before .before .lay-link .kept, c .before .before .before .before .before .before .before .before .before .before .before .before .before .before .before .before .before .before .loop .inv .0),

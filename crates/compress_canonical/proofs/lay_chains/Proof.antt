@@ -1,3 +1,5 @@
+-- `compress_canonical::lay_chains` meets its contract. The loop's invariant: for whatever arena is being laid out, the definition is between two chains at the
+-- state that the columns hold, and the lowest link that waits was found (ChainsInPlace). The measure is the number of slots that are left. Assumes nothing.
 use Prim.Native.Nat.{_-_}
 use native.Mathlib.Omega.{arith}
 use borrow.Author.Needs.{needs}
@@ -6,12 +8,6 @@ use Rattle.compress_canonical.specs.Lent.{lent, AsLong}
 use Rattle.compress_canonical.proofs.ChainsInPlace.{LayingOut, laying-starts, larger-within, ready-small, some-rooted, some-chain, some-more, goes-on, ends}
 use Rattle.compress_canonical.proofs.lay_chains.Statement.{statement}
 use Rattle.compress_canonical.proofs.lay_chains.Tie as tie
-use Rattle.compress_canonical.proofs.lay_chains.Reads as reads
-use Rattle.compress_canonical.proofs.lay_chains.Lts as lts
-use Rattle.compress_canonical.proofs.larger.Reads as larger-reads
-use Rattle.compress_canonical.proofs.lay_chain.Reads as lay-chain-reads
-use Rattle.compress_canonical.proofs.lowest_link.Reads as lowest-link-reads
-use Rattle.compress_canonical.proofs.start_of.Reads as start-of-reads
 
 abbrev Inv-loop : tie.InvT-loop
 Inv-loop prev₀ next₀ payload₀ where-from₀ laid₀ found₀ prev next payload where-from laid found =
@@ -20,69 +16,54 @@ Inv-loop prev₀ next₀ payload₀ where-from₀ laid₀ found₀ prev next pay
 abbrev μ-loop : tie.MeasureT-loop
 μ-loop prev₀ next₀ payload₀ where-from₀ laid₀ found₀ prev next payload where-from laid found = length where-from - laid
 
--- src/lib.rt:208:9
 lowest-link-requires : tie.Need-lowest-link-requires Inv-loop μ-loop
 lowest-link-requires c κs = (omega arith, ready-small _ (c .before .before .before .before .before .pre))
 
--- src/lib.rt:209:5
 loop-holds : tie.Need-loop-holds Inv-loop μ-loop
 loop-holds c = (omega arith, laying-starts _ _ (c .lowest-link .ensures))
 
--- src/lib.rt:210:13
 start-of-requires : tie.Need-start-of-requires Inv-loop μ-loop
 start-of-requires c κs = some-rooted (c .before .before .before .loop .inv .1) (c .before .if1 .taken) (c .before .before .before .before .before .before .before .before .before .before .pre)
 
--- src/lib.rt:211:9
 lay-chain-requires : tie.Need-lay-chain-requires Inv-loop μ-loop
 lay-chain-requires c κs = some-chain (c .before .before .before .before .before .before .before .before .loop .inv .1) (c .before .before .before .before .before .before .if1 .taken) _ (c .before .before .before .before .start-of .ensures) (c .before .before .before .before .before .before .before .before .before .before .before .before .before .before .before .pre)
 
--- src/lib.rt:213:33
 cast-larger : tie.Need-cast-larger Inv-loop μ-loop
 cast-larger c = search needs
 
--- src/lib.rt:213:33
 sub-larger : tie.Need-sub-larger Inv-loop μ-loop
 sub-larger c = omega (arith, c .before .before .before .before .before .before .before .before .before .before .before .before .before .before .before .before .if1 .taken)
 
--- src/lib.rt:213:13
 larger-requires : tie.Need-larger-requires Inv-loop μ-loop
 larger-requires c κs = search needs
 
--- src/lib.rt:214:9
 lowest-link-requires-2 : tie.Need-lowest-link-requires-2 Inv-loop μ-loop
 lowest-link-requires-2 c κs =
     let more = some-more (c .before .before .before .before .before .before .before .before .before .before .before .before .before .before .before .before .before .before .before .before .loop .inv .1) (c .before .before .before .before .before .before .before .before .before .before .before .before .before .before .before .before .before .before .if1 .taken) _ (c .before .before .before .before .before .before .before .before .before .before .before .before .before .before .before .before .start-of .ensures) _ _ (c .before .before .before .before .before .before .before .before .before .before .before .lay-chain .ensures) (c .before .before .before .before .before .before .before .before .before .before .before .before .before .before .before .before .before .before .before .before .before .before .before .before .before .before .before .pre) in
     let kept = c .before .before .before .before .before .before .before .before .before .before .before .lay-chain .kept in
     (larger-within _ _ _ _ (c .before .larger .ensures) (more .1) (omega arith), omega arith)
 
--- src/lib.rt:209:5
 loop-less : tie.Need-loop-less Inv-loop μ-loop
 loop-less c = let more = some-more (c .before .before .before .before .before .before .before .before .before .before .before .before .before .before .before .before .before .before .before .before .before .loop .inv .1) (c .before .before .before .before .before .before .before .before .before .before .before .before .before .before .before .before .before .before .before .if1 .taken) _ (c .before .before .before .before .before .before .before .before .before .before .before .before .before .before .before .before .before .start-of .ensures) _ _ (c .before .before .before .before .before .before .before .before .before .before .before .before .lay-chain .ensures) (c .before .before .before .before .before .before .before .before .before .before .before .before .before .before .before .before .before .before .before .before .before .before .before .before .before .before .before .before .pre) in omega (arith, c .before .before .before .before .before .before .before .before .before .before .before .before .lay-chain .kept, more)
 
--- src/lib.rt:209:5
 loop-again : tie.Need-loop-again Inv-loop μ-loop
 loop-again c = (
   omega (arith, c .before .before .before .before .before .before .before .before .before .before .before .before .lay-chain .kept, c .before .before .before .before .before .before .before .before .before .before .before .before .before .before .before .before .before .before .before .before .before .loop .inv .0),
   goes-on (c .before .before .before .before .before .before .before .before .before .before .before .before .before .before .before .before .before .before .before .before .before .loop .inv .1) (c .before .before .before .before .before .before .before .before .before .before .before .before .before .before .before .before .before .before .before .if1 .taken) _ (c .before .before .before .before .before .before .before .before .before .before .before .before .before .before .before .before .before .start-of .ensures) _ _ (c .before .before .before .before .before .before .before .before .before .before .before .before .lay-chain .ensures) _ _ (c .before .before .larger .ensures) (c .lowest-link2 .ensures),
 )
 
--- src/lib.rt:202:1
 same-length : tie.Need-same-length Inv-loop μ-loop
 same-length c = search needs
 
--- src/lib.rt:202:1
 same-length-2 : tie.Need-same-length-2 Inv-loop μ-loop
 same-length-2 c = search needs
 
--- src/lib.rt:202:1
 same-length-3 : tie.Need-same-length-3 Inv-loop μ-loop
 same-length-3 c = search needs
 
--- src/lib.rt:202:1
 same-length-4 : tie.Need-same-length-4 Inv-loop μ-loop
 same-length-4 c = search needs
 
--- src/lib.rt:202:1
 returns : tie.Need-returns Inv-loop μ-loop
 returns c = ends (c .before .before .loop .inv .1) (c .if1 .left)
 

@@ -1,3 +1,5 @@
+-- `compress_canonical::mark_links` meets its contract. The loop's invariant: the slots passed are marked (Marks). The measure is what is left of the column.
+-- Assumes nothing.
 use Prim.Native.Nat.{_-_}
 use native.Mathlib.Omega.{arith}
 use borrow.Author.Needs.{needs}
@@ -5,9 +7,6 @@ use lib.ListN.{length, length-set}
 use Rattle.compress_canonical.proofs.Marks.{Marking, marking-starts, marking-goes-on, all-marked}
 use Rattle.compress_canonical.proofs.mark_links.Statement.{statement}
 use Rattle.compress_canonical.proofs.mark_links.Tie as tie
-use Rattle.compress_canonical.proofs.mark_links.Reads as reads
-use Rattle.compress_canonical.proofs.mark_links.Lts as lts
-use Rattle.compress_canonical.proofs.occupant.Reads as occupant-reads
 
 abbrev Inv-loop : tie.InvT-loop
 Inv-loop where-from₀ generation s₀ where-from s = Marking generation where-from₀ where-from s
@@ -15,47 +14,36 @@ Inv-loop where-from₀ generation s₀ where-from s = Marking generation where-f
 abbrev μ-loop : tie.MeasureT-loop
 μ-loop where-from₀ generation s₀ where-from s = length where-from - s
 
--- src/lib.rt:155:5
 loop-holds : tie.Need-loop-holds Inv-loop μ-loop
 loop-holds c = marking-starts _ _ (c .before .before .pre .0)
 
--- src/lib.rt:156:34
 mul-occupant : tie.Need-mul-occupant Inv-loop μ-loop
 mul-occupant c = search needs
 
--- src/lib.rt:156:34
 shared-slice-read-occupant : tie.Need-shared-slice-read-occupant Inv-loop μ-loop
 shared-slice-read-occupant c = search needs
 
--- src/lib.rt:156:25
 occupant-requires : tie.Need-occupant-requires Inv-loop μ-loop
 occupant-requires c κs = search needs
 
--- src/lib.rt:156:9
 mul-where-from : tie.Need-mul-where-from Inv-loop μ-loop
 mul-where-from c = search needs
 
--- src/lib.rt:156:9
 slice-write-where-from : tie.Need-slice-write-where-from Inv-loop μ-loop
 slice-write-where-from c = search needs
 
--- src/lib.rt:157:9
 add-s : tie.Need-add-s Inv-loop μ-loop
 add-s c = search needs
 
--- src/lib.rt:155:5
 loop-less : tie.Need-loop-less Inv-loop μ-loop
 loop-less c = simp length-set (omega arith)
 
--- src/lib.rt:155:5
 loop-again : tie.Need-loop-again Inv-loop μ-loop
 loop-again c = marking-goes-on _ _ _ _ _ (c .before .before .before .loop .inv) (c .before .before .loop-test .taken) (c .occupant .ensures)
 
--- src/lib.rt:150:1
 same-length : tie.Need-same-length Inv-loop μ-loop
 same-length c = search needs
 
--- src/lib.rt:150:1
 returns : tie.Need-returns Inv-loop μ-loop
 returns c = all-marked _ _ _ _ (c .before .loop .inv) (c .loop-test .left)
 

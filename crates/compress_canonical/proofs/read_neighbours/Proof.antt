@@ -1,25 +1,19 @@
+-- `compress_canonical::read_neighbours` meets its contract: where nobody is in slot i its words are not read. Assumes nothing.
 use mathlib.Core.Path.{sym, _∙_}
 use borrow.Author.Needs.{needs}
 use Rattle.compress_canonical.proofs.Traded.{held-none, held-some}
 use Rattle.compress_canonical.proofs.read_neighbours.Statement.{statement}
 use Rattle.compress_canonical.proofs.read_neighbours.Tie as tie
-use Rattle.compress_canonical.proofs.read_neighbours.Reads as reads
-use Rattle.compress_canonical.proofs.read_neighbours.Lts as lts
-use Rattle.chain_traits.proofs.slot_at.Reads as slot-at-reads
 
--- src/lib.rt:61:9
 slot-at-requires : tie.Need-slot-at-requires
 slot-at-requires c κs = search needs
 
--- src/lib.rt:62:9
 slot-at-requires-2 : tie.Need-slot-at-requires-2
 slot-at-requires-2 c κs = search needs
 
--- src/lib.rt:63:8
 slot-at-requires-3 : tie.Need-slot-at-requires-3
 slot-at-requires-3 c κs = search needs
 
--- src/lib.rt:64:9
 returns : tie.Need-returns
 returns c =
     let who = c .before .before .slot-at3 .ensures in
@@ -30,15 +24,12 @@ returns c =
       next1 = sym (held-none _ _ (sym who ∙ c .if1 .taken));
     }
 
--- src/lib.rt:74:16
 slot-at-requires-4 : tie.Need-slot-at-requires-4
 slot-at-requires-4 c κs = search needs
 
--- src/lib.rt:75:16
 slot-at-requires-5 : tie.Need-slot-at-requires-5
 slot-at-requires-5 c κs = search needs
 
--- src/lib.rt:57:1
 returns-2 : tie.Need-returns-2
 returns-2 c =
     let who = c .before .before .before .before .slot-at3 .ensures in

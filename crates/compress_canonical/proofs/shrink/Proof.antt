@@ -1,71 +1,53 @@
+-- `compress_canonical::shrink` meets its contract: a column filled and popped is the settled one (Shrinks). Assumes nothing.
 use native.Mathlib.Omega.{arith}
 use lib.ListN.{length-set}
 use borrow.Author.Needs.{needs}
 use Rattle.compress_canonical.proofs.Shrinks.{shrinks}
 use Rattle.compress_canonical.proofs.shrink.Statement.{statement}
 use Rattle.compress_canonical.proofs.shrink.Tie as tie
-use Rattle.compress_canonical.proofs.shrink.Reads as reads
-use Rattle.compress_canonical.proofs.shrink.Lts as lts
-use Rattle.base_freelist.proofs.pop_slots.Reads as pop-slots-reads
-use Rattle.compress_with.proofs.fill_generation.Reads as fill-generation-reads
 
--- src/lib.rt:318:13
 slice-read-n : tie.Need-slice-read-n
 slice-read-n c = search needs
 
--- src/lib.rt:318:13
 cast-n : tie.Need-cast-n
 cast-n c = search needs
 
--- src/lib.rt:319:17
 slice-read-links : tie.Need-slice-read-links
 slice-read-links c = search needs
 
--- src/lib.rt:320:13
 cast-m : tie.Need-cast-m
 cast-m c = search needs
 
--- src/lib.rt:321:42
 slice-read-fill-generation : tie.Need-slice-read-fill-generation
 slice-read-fill-generation c = search needs
 
--- src/lib.rt:321:5
 fill-generation-requires : tie.Need-fill-generation-requires
 fill-generation-requires c κs = search needs
 
--- src/lib.rt:322:5
 pop-slots-requires : tie.Need-pop-slots-requires
 pop-slots-requires c κs = search needs
 
--- src/lib.rt:323:5
 slice-write-header : tie.Need-slice-write-header
 slice-write-header c = search needs
 
--- src/lib.rt:324:5
 slice-write-header-2 : tie.Need-slice-write-header-2
 slice-write-header-2 c = simp length-set (omega (arith, c .before .before .before .before .before .before .before .before .before .before .before .before .before .before .before .before .before .before .before .before .before .before .before .before .before .pre .header))
 
--- src/lib.rt:307:1
 same-length : tie.Need-same-length
 same-length c = search needs
 
--- src/lib.rt:307:1
 same-length-2 : tie.Need-same-length-2
 same-length-2 c = search needs
 
--- src/lib.rt:307:1
 same-length-3 : tie.Need-same-length-3
 same-length-3 c = search needs
 
--- src/lib.rt:307:1
 same-length-4 : tie.Need-same-length-4
 same-length-4 c = search needs
 
--- src/lib.rt:307:1
 same-length-5 : tie.Need-same-length-5
 same-length-5 c = search needs
 
--- src/lib.rt:307:1
 returns : tie.Need-returns
 returns c =
     let pops = c .before .before .before .before .before .before .before .before .pop-slots .ensures in

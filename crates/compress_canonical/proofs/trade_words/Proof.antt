@@ -1,65 +1,50 @@
+-- `compress_canonical::trade_words` meets its contract, as `trade_slots` does, by the same law. Assumes nothing.
 use native.Mathlib.Omega.{arith}
 use borrow.Author.Needs.{needs}
 use lib.ListN.{length-set}
 use Rattle.compress_canonical.proofs.Traded.{traded}
 use Rattle.compress_canonical.proofs.trade_words.Statement.{statement}
 use Rattle.compress_canonical.proofs.trade_words.Tie as tie
-use Rattle.compress_canonical.proofs.trade_words.Reads as reads
-use Rattle.compress_canonical.proofs.trade_words.Lts as lts
 
--- src/lib.rt:39:13
 cast-a : tie.Need-cast-a
 cast-a c = search needs
 
--- src/lib.rt:39:13
 sub-a : tie.Need-sub-a
 sub-a c = search needs
 
--- src/lib.rt:40:13
 cast-b : tie.Need-cast-b
 cast-b c = search needs
 
--- src/lib.rt:40:13
 sub-b : tie.Need-sub-b
 sub-b c = search needs
 
--- src/lib.rt:41:16
 mul-kept : tie.Need-mul-kept
 mul-kept c = search needs
 
--- src/lib.rt:41:16
 slice-read-kept : tie.Need-slice-read-kept
 slice-read-kept c = search needs
 
--- src/lib.rt:42:17
 mul-column : tie.Need-mul-column
 mul-column c = search needs
 
--- src/lib.rt:42:17
 slice-read-column : tie.Need-slice-read-column
 slice-read-column c = search needs
 
--- src/lib.rt:42:5
 mul-column-2 : tie.Need-mul-column-2
 mul-column-2 c = search needs
 
--- src/lib.rt:42:5
 slice-write-column : tie.Need-slice-write-column
 slice-write-column c = search needs
 
--- src/lib.rt:43:5
 mul-column-3 : tie.Need-mul-column-3
 mul-column-3 c = search needs
 
--- src/lib.rt:43:5
 slice-write-column-2 : tie.Need-slice-write-column-2
 slice-write-column-2 c = simp length-set (omega arith)
 
--- src/lib.rt:35:1
 same-length : tie.Need-same-length
 same-length c = search needs
 
--- src/lib.rt:35:1
 returns : tie.Need-returns
 returns c = traded _ _ _ (omega arith) (omega arith)
 

@@ -3,9 +3,8 @@
 use mathlib.Core.Path.{_≡_, refl, sym, ap, _∙_}
 use native.Mathlib.Omega.{arith}
 use borrow.Author.Needs.{needs}
-use lib.ListN.{getD, length-set}
+use lib.ListN.{length-set}
 use Rattle.definitions.proofs.Shaped.{shaped}
-use Rattle.definitions.proofs.Slots.{links-and-free}
 use Rattle.compress_with.proofs.Passed.{compressible, refused, renewed-word, compressed}
 use Rattle.compress_with.proofs.compress_with.Statement.{statement}
 use Rattle.compress_with.proofs.compress_with.Tie as tie
@@ -19,8 +18,8 @@ cast-n c = let ok = shaped _ _ (c .before .before .before .before .before .befor
 slice-read-links : tie.Need-slice-read-links
 slice-read-links c = let ok = shaped _ _ (c .before .before .before .before .before .before .before .before .pre) in omega arith
 
-cast-links : tie.Need-cast-links
-cast-links c = let ok = shaped _ _ (c .before .before .before .before .before .before .before .before .pre) in omega arith
+cast-if1 : tie.Need-cast-if1
+cast-if1 c = let ok = shaped _ _ (c .before .before .before .before .before .before .before .before .pre) in omega arith
 
 mul-if1 : tie.Need-mul-if1
 mul-if1 c = let ok = shaped _ _ (c .before .before .before .before .before .before .before .before .pre) in omega arith
@@ -34,26 +33,17 @@ renew-generation-requires c κs = shaped _ _ (c .before .before .before .before 
 slice-read-new : tie.Need-slice-read-new
 slice-read-new c = let ok = shaped _ _ (c .before .before .before .before .before .before .before .before .before .before .before .before .before .before .pre) in omega (arith, c .before .before .before .renew-generation .kept)
 
+cast-compress-columns : tie.Need-cast-compress-columns
+cast-compress-columns c = let ok = shaped _ _ (c .before .before .before .before .before .before .before .before .before .before .before .before .before .before .before .before .before .before .before .pre) in omega arith
+
 compress-columns-requires : tie.Need-compress-columns-requires
 compress-columns-requires c κs = compressible _ (c .before .before .before .before .before .before .before .before .before .before .before .before .before .before .before .before .before .before .before .pre) _ (c .before .before .before .before .before .before .before .before .before .before .if1 .left)
 
 slice-write-header : tie.Need-slice-write-header
 slice-write-header c = let ok = shaped _ _ (c .before .before .before .before .before .before .before .before .before .before .before .before .before .before .before .before .before .before .before .before .before .before .before .before .before .before .before .before .before .before .pre) in omega (arith, c .before .before .before .before .before .before .before .before .before .before .before .before .before .before .before .before .before .before .before .renew-generation .kept)
 
-cast-header : tie.Need-cast-header
-cast-header c =
-    let start = c .before .before .before .before .before .before .before .before .before .before .before .before .before .before .before .before .before .before .before .before .before .before .before .before .before .before .before .before .before .before in
-    let ok = shaped _ _ (start .pre) in
-    omega (arith, c .before .before .before .before .before .before .before .before .before .before .compress-columns .ensures .0, links-and-free (start .args .generation .now) (getD (start .args .header .now) 0 0))
-
 slice-write-header-2 : tie.Need-slice-write-header-2
 slice-write-header-2 c = let ok = shaped _ _ (c .before .before .before .before .before .before .before .before .before .before .before .before .before .before .before .before .before .before .before .before .before .before .before .before .before .before .before .before .before .before .pre) in simp length-set (omega (arith, c .before .before .before .before .before .before .before .before .before .before .before .before .before .before .before .before .before .before .before .renew-generation .kept))
-
-cast-header-2 : tie.Need-cast-header-2
-cast-header-2 c = cast-header c
-
-slice-write-header-3 : tie.Need-slice-write-header-3
-slice-write-header-3 c = let ok = shaped _ _ (c .before .before .before .before .before .before .before .before .before .before .before .before .before .before .before .before .before .before .before .before .before .before .before .before .before .before .before .before .before .before .pre) in simp length-set (omega (arith, c .before .before .before .before .before .before .before .before .before .before .before .before .before .before .before .before .before .before .before .renew-generation .kept))
 
 same-length : tie.Need-same-length
 same-length c = search needs
@@ -79,7 +69,7 @@ returns-2 c =
     let renewed = c .before .before .before .before .before .before .before .before .before .before .before .before .before .before .before .before .before .before .before .renew-generation .ensures _ _ _ _ in
     let columns = c .before .before .before .before .before .before .before .before .before .before .compress-columns .ensures in
     let header = start .args .header .now in
-    compressed _ _ _ _ _ _ _ _ _ _ _ _ _ (c .before .before .before .before .before .before .before .before .before .before .before .before .before .before .before .before .before .before .before .before .before .if1 .left) (renewed-word _ _ _ (shaped _ _ (start .pre) .header) _ _ renewed) renewed (columns .1 .0 header refl) (columns .1 .1 header)
+    compressed _ _ _ _ _ _ _ _ _ _ _ _ (c .before .before .before .before .before .before .before .before .before .before .before .before .before .before .before .before .before .before .before .before .before .if1 .left) (renewed-word _ _ _ (shaped _ _ (start .pre) .header) _ _ renewed) renewed (columns .0 header refl) (columns .1 header)
 
 pub compress-with-spec : {M : Type 1} → statement M
 compress-with-spec =
@@ -88,17 +78,15 @@ compress-with-spec =
     slice-read-n
     cast-n
     slice-read-links
-    cast-links
+    cast-if1
     mul-if1
     returns
     renew-generation-requires
     slice-read-new
+    cast-compress-columns
     compress-columns-requires
     slice-write-header
-    cast-header
     slice-write-header-2
-    cast-header-2
-    slice-write-header-3
     same-length
     same-length-2
     same-length-3

@@ -1,0 +1,159 @@
+//! The same calls through the safe wrapper, its answers turned back into words.
+
+use chain_arena::{Link, LinkNoGen, Pointer, Refusal};
+
+use crate::{Arena, Call, Ptr, Reply, Walk};
+
+/// The wrapper's pointer.
+fn pointer(p: Ptr) -> Pointer {
+    Pointer { slot: p.slot, generation: p.generation }
+}
+
+/// The two words of a pointer, 0 and 0 for none.
+fn pointer_words(p: Option<Pointer>) -> [u32; 2] {
+    p.map_or([0, 0], |p| [p.slot.into(), p.generation])
+}
+
+/// The words of a link.
+fn link_words(link: Link) -> Vec<u32> {
+    let [prev, prev_generation] = pointer_words(link.prev);
+    let [next, next_generation] = pointer_words(link.next);
+    vec![prev, prev_generation, next, next_generation, link.payload]
+}
+
+/// The words of a link without its neighbours' generations.
+fn no_gen_words(link: LinkNoGen) -> Vec<u32> {
+    vec![link.prev.unwrap_or(0).into(), link.next.unwrap_or(0).into(), link.payload]
+}
+
+/// The reply that an answer stands for, where done it is a number with words.
+fn reply(answer: Result<(u32, Vec<u32>), Refusal>) -> Reply {
+    match answer {
+        Ok((number, words)) => Reply::new(number, &words),
+        Err(refusal) => Reply { broken: refusal.broken().unwrap_or(0), ..Reply::number(refusal.number()) },
+    }
+}
+
+/// Makes one call through the wrapper, or none if its level is not linked.
+pub fn perform(a: &mut Arena, call: &mut Call) -> Option<Reply> {
+    match call.level() {
+        1 => Some(level_one(a, call)),
+        2 => level_two(a, call),
+        _ => level_three(a, call),
+    }
+}
+
+/// The arena as it is lent to be read.
+pub fn lent(a: &Arena) -> chain_arena::Arena<'_> {
+    chain_arena::Arena {
+        prev: &a.prev,
+        next: &a.next,
+        generation: &a.generation,
+        payload: &a.payload,
+        header: &a.header,
+    }
+}
+
+/// The calls of Level One.
+fn level_one(a: &Arena, call: &Call) -> Reply {
+    let arena = lent(a);
+    match *call {
+        Call::GetLink(p) => reply(arena.get_link(pointer(p)).map(|link| (0, link_words(link)))),
+        Call::GetLinkNoGen(p) => reply(arena.get_link_no_gen(pointer(p)).map(|link| (0, no_gen_words(link)))),
+        Call::AreNeighbors(p, q) => {
+            reply(arena.are_neighbors(pointer(p), pointer(q)).map(|yes| (0, vec![yes.into()])))
+        }
+        Call::WalkStart(p) => reply(
+            arena
+                .walk_start(pointer(p))
+                .map(|walk| (0, vec![walk.start, walk.position, walk.direction, walk.left])),
+        ),
+        Call::WalkStep(walk) => walk_step(&arena, walk),
+        _ => reply(arena.check().map(|()| (0, vec![]))),
+    }
+}
+
+/// A step; also a refused one hands back its state.
+fn walk_step(arena: &chain_arena::Arena<'_>, walk: Walk) -> Reply {
+    let Walk { start, position, direction, left } = walk;
+    let mut state = chain_arena::Walk { start, position, direction, left };
+    let answer = state.step(arena);
+    let mut reply = reply(answer.map(|p| (0, pointer_words(p).to_vec())));
+    reply.words[2..].copy_from_slice(&[state.start, state.position, state.direction, state.left]);
+    reply
+}
+
+/// The arena as it is lent to be written.
+#[cfg(any(level_two, level_three))]
+fn lent_mut(a: &mut Arena) -> chain_arena::ArenaMut<'_> {
+    chain_arena::ArenaMut {
+        prev: &mut a.prev,
+        next: &mut a.next,
+        generation: &mut a.generation,
+        payload: &mut a.payload,
+        header: &mut a.header,
+    }
+}
+
+/// The number of a call that was done.
+#[cfg(any(level_two, level_three))]
+fn number(done: chain_arena::Done) -> (u32, Vec<u32>) {
+    (if done.overflowed { 100 } else { 0 }, vec![])
+}
+
+/// The calls of Level Two.
+#[cfg(level_two)]
+fn level_two(a: &mut Arena, call: &mut Call) -> Option<Reply> {
+    let mut arena = lent_mut(a);
+    let plain = |answer: Result<(), Refusal>| reply(answer.map(|()| (0, vec![])));
+    Some(match call {
+        Call::Connect(p, q) => plain(arena.connect(pointer(*p), pointer(*q))),
+        Call::BreakPrev(p) => plain(arena.break_prev(pointer(*p))),
+        Call::BreakNext(p) => plain(arena.break_next(pointer(*p))),
+        Call::ExchangeNext(p, q) => plain(arena.exchange_next(pointer(*p), pointer(*q))),
+        Call::Remove(p) => reply(
+            arena
+                .remove(pointer(*p))
+                .map(|removed| (if removed.overflowed { 100 } else { 0 }, no_gen_words(removed.link))),
+        ),
+        Call::Drain(p, report) => reply(arena.drain(pointer(*p), report).map(|drained| {
+            assert_eq!(drained.links().count(), drained.report.len());
+            for (item, words) in drained.links().zip(drained.report) {
+                let [slot, generation] = pointer_words(Some(item.pointer));
+                let link = no_gen_words(item.link);
+                assert_eq!(*words, [slot, generation, link[0], link[1], link[2]]);
+            }
+            (0, vec![drained.report.len() as u32, drained.overflowed.unwrap_or(0)])
+        })),
+        Call::SetGeneration(to) => plain(arena.set_generation(*to)),
+        Call::IncGeneration => reply(arena.inc_generation().map(number)),
+        Call::CanonicalizeFreelist => plain(arena.canonicalize_freelist()),
+        Call::Run(commands, answers) => plain(arena.run(commands, answers)),
+        _ => return None,
+    })
+}
+
+/// Level Two is not linked.
+#[cfg(not(level_two))]
+fn level_two(_: &mut Arena, _: &mut Call) -> Option<Reply> {
+    None
+}
+
+/// The calls of Level Three.
+#[cfg(level_three)]
+fn level_three(a: &mut Arena, call: &mut Call) -> Option<Reply> {
+    let mut arena = lent_mut(a);
+    Some(match call {
+        Call::CompressWith(reset, report) => reply(arena.compress_with(*reset != 0, report).map(number)),
+        Call::CompressCanonical(reset, from) => {
+            reply(arena.compress_canonical(*reset != 0, from).map(number))
+        }
+        _ => return None,
+    })
+}
+
+/// Level Three is not linked.
+#[cfg(not(level_three))]
+fn level_three(_: &mut Arena, _: &mut Call) -> Option<Reply> {
+    None
+}
