@@ -1,5 +1,6 @@
 // Connect, break, exchange and remove (chain/impl_chain_arena_trait.rs) on an arena that passed the check.
 ghost use mathlib.Core.Path.{_≡_};
+ghost use mathlib.Core.Bool.{cond};
 ghost use mathlib.Core.List.{[]};
 ghost use Prim.Native.Nat.{_≤_, _<_};
 ghost use lib.ListN.{length};
@@ -10,7 +11,7 @@ ghost use Rattle.definitions.specs.Edit.{connect, breakPrev, breakNext, exchang
 ghost use Rattle.definitions.specs.Remove.{remove};
 ghost use Rattle.links.specs.Links.{removalReply};
 ghost use Rattle.chain_traits.specs.Read.{pointerOf};
-ghost use Rattle.chain_edits.specs.Edits.{editedNumber, editedReply};
+ghost use Rattle.chain_edits.specs.Edits.{editedNumber, editedReply, breakSide};
 use base_removal::set_at;
 use base_removal::take_out;
 use chain_traits::GotLinkNoGen;
@@ -76,6 +77,46 @@ pub fn connect(
     Edited::Done
 }
 
+// The one slot or the other.
+fn either(one: bool, x: Slot, y: Slot) -> Slot
+    ensures { λ r. ⌜ r .0 ≡ cond one (x .0) (y .0) ⌝ }
+{
+    if one {
+        return x;
+    }
+    y
+}
+
+// Takes the interlink between p and its next away if after, else the one between p and its prev. Both sides are one operation, in which no branch asks for the
+// side: a run of mixed edits cannot foresee it.
+pub fn break_side(
+    prev: &mut [u16],
+    next: &mut [u16],
+    generation: &[u32],
+    payload: &[u32],
+    header: &[u32],
+    p: Ptr,
+    after: bool,
+) -> Edited
+    requires { ⌜ WellFormed capacityLimit (arena (now prev) (now next) (now generation) (now payload) (now header)) ⌝ }
+    ensures { λ r. ⌜ editedReply r (arena (now (prev .exit)) (now (next .exit)) (now (generation .entry)) (now (payload .entry)) (now (header .entry)))
+        ≡ breakSide (arena (now (prev .entry)) (now (next .entry)) (now (generation .entry)) (now (payload .entry)) (now (header .entry))) (pointerOf p) after ⌝ }
+{
+    let n = header[0] as usize;
+    if stale(generation, n, p) {
+        return Edited::Stale;
+    }
+    let its_prev = slot_at(&*prev, p.inx);
+    let its_next = slot_at(&*next, p.inx);
+    let neighbour = either(after, its_next, its_prev);
+    if neighbour.0 == 0 {
+        return Edited::Misplaced;
+    }
+    set_at(next, either(after, p.inx, neighbour), Slot(0));
+    set_at(prev, either(after, neighbour, p.inx), Slot(0));
+    Edited::Done
+}
+
 // Takes the interlink between p and its prev away.
 pub fn break_prev(
     prev: &mut [u16],
@@ -89,17 +130,7 @@ pub fn break_prev(
     ensures { λ r. ⌜ editedReply r (arena (now (prev .exit)) (now (next .exit)) (now (generation .entry)) (now (payload .entry)) (now (header .entry)))
         ≡ breakPrev (arena (now (prev .entry)) (now (next .entry)) (now (generation .entry)) (now (payload .entry)) (now (header .entry))) (pointerOf p) [] ⌝ }
 {
-    let n = header[0] as usize;
-    if stale(generation, n, p) {
-        return Edited::Stale;
-    }
-    let before = slot_at(&*prev, p.inx);
-    if before.0 == 0 {
-        return Edited::Misplaced;
-    }
-    set_at(next, before, Slot(0));
-    set_at(prev, p.inx, Slot(0));
-    Edited::Done
+    break_side(prev, next, generation, payload, header, p, false)
 }
 
 // Takes the interlink between p and its next away.
@@ -115,17 +146,7 @@ pub fn break_next(
     ensures { λ r. ⌜ editedReply r (arena (now (prev .exit)) (now (next .exit)) (now (generation .entry)) (now (payload .entry)) (now (header .entry)))
         ≡ breakNext (arena (now (prev .entry)) (now (next .entry)) (now (generation .entry)) (now (payload .entry)) (now (header .entry))) (pointerOf p) [] ⌝ }
 {
-    let n = header[0] as usize;
-    if stale(generation, n, p) {
-        return Edited::Stale;
-    }
-    let after = slot_at(&*next, p.inx);
-    if after.0 == 0 {
-        return Edited::Misplaced;
-    }
-    set_at(next, p.inx, Slot(0));
-    set_at(prev, after, Slot(0));
-    Edited::Done
+    break_side(prev, next, generation, payload, header, p, true)
 }
 
 // Writes v at slot s of a link column, then w at slot t.

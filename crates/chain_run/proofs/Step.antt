@@ -2,9 +2,11 @@
 use Prim.Native.Nat.{ℕ, _≤_, _<_}
 use mathlib.Core.Bool.{true}
 use mathlib.Core.List.{List, []}
+use mathlib.Core.Logic.{_≢_}
 use mathlib.Core.Path.{_≡_, refl, sym, ap, _∙_}
 use native.Mathlib.Omega.{arith}
-use lib.Dec.{ltb}
+use native.Mathlib.Decide.{ℕ-discrete}
+use lib.Dec.{eqb, ltb}
 use borrow.Author.Tests.{ltb-true}
 use Rattle.definitions.proofs.Tests.{by-test, the-second, tests}
 use Rattle.definitions.specs.Arena.{Arena, capacityLimit, stackLength}
@@ -17,6 +19,7 @@ use Rattle.definitions.specs.Run.{Command, apply}
 use Rattle.links.specs.Links.{removalReply}
 use Rattle.links.specs.declared.InvalidationResult.{InvalidationResult}
 use Rattle.links.specs.declared.InvalidationResult.the-variants.{Success, GenerationOverflow, InvalidPtr}
+use Rattle.chain_edits.specs.Edits.{breakSide}
 use Rattle.chain_run.specs.Commands.{narrowed, Applied}
 
 -- ---- a slot over the limit is stale, and so is slot 0
@@ -64,13 +67,12 @@ module _ (top : ℕ) (a : Arena) (ok : WellFormed capacityLimit a) (c : Command)
     unfolding apply
     connects code e = edited k _ e (rw code refl) number
 
-    pub breaks-prev : c .code ≡ 2 → reply k [] left [] ≡ breakPrev a p [] → Applied top a c r left
+    pub breaks : 2 ≤ c .code → c .code < 4 → reply k [] left [] ≡ breakSide a p (eqb (c .code) 3) → Applied top a c r left
     unfolding apply
-    breaks-prev code e = edited k _ e (rw code refl) number
-
-    pub breaks-next : c .code ≡ 3 → reply k [] left [] ≡ breakNext a p [] → Applied top a c r left
-    unfolding apply
-    breaks-next code e = edited k _ e (rw code refl) number
+    breaks low high e = elim (ℕ-discrete (c .code) 3) [ yes three ↦ edited k _ e (rw three refl) number | no other ↦ edited k _ e (rw (two other) refl) number ]
+      where
+        two : c .code ≢ 3 → c .code ≡ 2
+        two other = omega arith
 
     pub exchanges : c .code ≡ 4 → reply k [] left [] ≡ exchangeNext a p q [] → Applied top a c r left
     unfolding apply

@@ -9,8 +9,7 @@ ghost use Rattle.definitions.specs.Run.{commandWords, commandAt, run};
 ghost use Rattle.links.specs.Links.{removalReply};
 ghost use Rattle.chain_traits.specs.Read.{pointerOf};
 ghost use Rattle.chain_run.specs.Commands.{widePointer, narrowed, commandOf, Applied, AllApplied, ranNumber, ranReply};
-use chain_edits::break_next;
-use chain_edits::break_prev;
+use chain_edits::break_side;
 use chain_edits::connect;
 use chain_edits::exchange_next;
 use chain_edits::remove;
@@ -104,16 +103,17 @@ pub fn apply(
     let code = c.code;
     let p = first.narrow();
     let q = second.narrow();
-    // In two halves, since a jump through a table of all codes costs more than the edits do.
-    if code < 3 {
+    // By size, since a jump through a table of all codes costs more than the edits do.
+    if code < 2 {
         match code {
             1 => connect(prev, next, &*generation, &*payload, &*header, p, q).number(),
-            2 => break_prev(prev, next, &*generation, &*payload, &*header, p).number(),
             _ => 16,
         }
+    } else if code < 4 {
+        let after = code == 3;
+        break_side(prev, next, &*generation, &*payload, &*header, p, after).number()
     } else {
         match code {
-            3 => break_next(prev, next, &*generation, &*payload, &*header, p).number(),
             4 => exchange_next(prev, next, &*generation, &*payload, &*header, p, q).number(),
             5 => removal_number(remove(prev, next, generation, payload, header, p)),
             _ => 16,

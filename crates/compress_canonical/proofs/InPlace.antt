@@ -137,14 +137,16 @@ module _ (b : Arena) (from : List ℕ) (c : Lent) (sound : Exchangeable b from) 
   pub in-reach : InReach c i t
   in-reach =
       record {
-        in-prev = inside ps (columns .prev-long);
-        in-next = inside ns (columns .next-long);
+        links = record {
+          in-prev = inside ps (columns .prev-long);
+          in-next = inside ns (columns .next-long);
+          in-from = inside ws (columns .from-long);
+          prev0 = rw (columns .next-long) (names-within ps (λ s h d. back-prev s h d .0) t target);
+          next0 = rw (columns .prev-long) (names-within ns (λ s h d. back-next s h d .0) t target);
+          prev1 = rw (columns .next-long) (held-within ps (λ s h d. back-prev s h d .0));
+          next1 = rw (columns .prev-long) (held-within ns (λ s h d. back-next s h d .0));
+        };
         in-payload = inside (c .payload) (columns .payload-long);
-        in-from = inside ws (columns .from-long);
-        prev0 = rw (columns .next-long) (names-within ps (λ s h d. back-prev s h d .0) t target);
-        next0 = rw (columns .prev-long) (names-within ns (λ s h d. back-next s h d .0) t target);
-        prev1 = rw (columns .next-long) (held-within ps (λ s h d. back-prev s h d .0));
-        next1 = rw (columns .prev-long) (held-within ns (λ s h d. back-next s h d .0));
       }
 
   -- ---- the links are where they were, under their new names

@@ -7,7 +7,7 @@ use lib.ListN.{length}
 use lib.Dec.{eqb}
 use Rattle.definitions.specs.Columns.{at, put}
 use Rattle.definitions.specs.Compress.{exchangeWords}
-use Rattle.compress_canonical.specs.declared.Neighbours.{Neighbours}
+use Rattle.compress_canonical.specs.declared.Named.{Named}
 use Rattle.compress_canonical.specs.Lent.{Lent}
 
 -- slots i and t stand in the column
@@ -21,23 +21,25 @@ pub record Inside (xs : List ℕ) (i t : ℕ) : Type 0 where
 unfoldable pub heldOnly : ℕ → ℕ → ℕ
 heldOnly who name = cond (eqb who 0) 0 name
 
--- the neighbours of the link in slot t, and of who is in slot i; ws says who is in a slot
-pub record Around (ps ns ws : List ℕ) (i t : ℕ) (r : Neighbours) : Type 0 where
-  pub prev0 : r .prev0 .0 ≡ at ps t
-  pub next0 : r .next0 .0 ≡ at ns t
-  pub prev1 : r .prev1 .0 ≡ heldOnly (at ws i) (at ps i)
-  pub next1 : r .next1 .0 ≡ heldOnly (at ws i) (at ns i)
+-- what the link in slot t names in the column xs, and what who is in slot i names; ws says who is in a slot
+pub record NamedIn (xs ws : List ℕ) (i t : ℕ) (r : Named) : Type 0 where
+  pub moved : r .moved .0 ≡ at xs t
+  pub other : r .other .0 ≡ heldOnly (at ws i) (at xs i)
 
--- slots i and t stand in the columns, and so do the neighbours that are renamed
+-- slots i and t stand in the columns of neighbours, and so do the neighbours that are renamed
+pub record LinksInReach (ps ns ws : List ℕ) (i t : ℕ) : Type 0 where
+  pub in-prev : Inside ps i t
+  pub in-next : Inside ns i t
+  pub in-from : Inside ws i t
+  pub prev0 : at ps t ≤ length ns
+  pub next0 : at ns t ≤ length ps
+  pub prev1 : heldOnly (at ws i) (at ps i) ≤ length ns
+  pub next1 : heldOnly (at ws i) (at ns i) ≤ length ps
+
+-- and they stand in the other columns
 pub record InReach (c : Lent) (i t : ℕ) : Type 0 where
-  pub in-prev : Inside (c .prev) i t
-  pub in-next : Inside (c .next) i t
+  pub links : LinksInReach (c .prev) (c .next) (c .whereFrom) i t
   pub in-payload : Inside (c .payload) i t
-  pub in-from : Inside (c .whereFrom) i t
-  pub prev0 : at (c .prev) t ≤ length (c .next)
-  pub next0 : at (c .next) t ≤ length (c .prev)
-  pub prev1 : heldOnly (at (c .whereFrom) i) (at (c .prev) i) ≤ length (c .next)
-  pub next1 : heldOnly (at (c .whereFrom) i) (at (c .next) i) ≤ length (c .prev)
 
 -- a column of neighbours in which slots i and t are renamed where their neighbours in the column back name them, and then exchanged
 unfoldable pub renamedWords : List ℕ → List ℕ → List ℕ → ℕ → ℕ → List ℕ

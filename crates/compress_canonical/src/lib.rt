@@ -12,7 +12,7 @@ ghost use Rattle.definitions.specs.Reply.{reply};
 ghost use Rattle.definitions.specs.Compress.{Laying, exchangeWords, lowestFrom, startOf, layChain, laidOut, compressCanonical};
 ghost use Rattle.compress_canonical.specs.Answers.{compressedNumber};
 ghost use Rattle.compress_canonical.specs.Lent.{lent};
-ghost use Rattle.compress_canonical.specs.Exchange.{Inside, Around, InReach, Exchanged};
+ghost use Rattle.compress_canonical.specs.Exchange.{Inside, NamedIn, LinksInReach, InReach, renamedWords, Exchanged};
 ghost use Rattle.compress_canonical.specs.Held.{Occupied, Rooted, Marked};
 ghost use Rattle.compress_canonical.specs.Steps.{InChain, LinkLaid, ChainLaid, Ready, AllLaid, Larger, Stacked, LaidIn};
 ghost use Rattle.compress_canonical.specs.Shrunk.{Shrinkable, shrunk};
@@ -42,12 +42,10 @@ impl Compressed {
     }
 }
 
-// The neighbours of the two that exchange slots: of the link that is moved, and of what is where it goes.
-pub struct Neighbours {
-    pub prev0: Slot,
-    pub next0: Slot,
-    pub prev1: Slot,
-    pub next1: Slot,
+// What two slots that are exchanged name in a column of neighbours: the link that is moved, and who is where it goes, nothing if nobody is.
+pub struct Named {
+    pub moved: Slot,
+    pub other: Slot,
 }
 
 // Exchanges the words of slots i and t of a column of slots.
@@ -74,40 +72,48 @@ fn trade_words(column: &mut [u32], i: Slot, t: Slot)
     column[b] = kept;
 }
 
-// In one column of neighbours: the two words that name the moved ones get the new slots, then the two slots are exchanged.
-fn settle(column: &mut [u16], named0: Slot, named1: Slot, i: Slot, t: Slot)
-    requires { ⌜ Inside (now column) (i .0) (t .0) × (named0 .0 ≤ length (now column)) × (named1 .0 ≤ length (now column)) ⌝ }
-    ensures { λ _. ⌜ now (column .exit) ≡ exchangeWords (i .0) (t .0) (put (put (now (column .entry)) (named0 .0) (i .0)) (named1 .0) (t .0)) ⌝ }
+// What the link in slot t names in a column of neighbours, and what who is in slot i names.
+fn read_named(column: &[u16], where_from: &[u16], i: Slot, t: Slot) -> Named
+    requires { ⌜ Inside (now column) (i .0) (t .0) × Inside (now «where_from») (i .0) (t .0) ⌝ }
+    ensures { λ r. ⌜ NamedIn (now (column .entry)) (now («where_from» .entry)) (i .0) (t .0) r ⌝ }
 {
-    put_at(&mut *column, named0, i);
-    put_at(&mut *column, named1, t);
+    let moved = slot_at(column, t);
+    if slot_at(where_from, i).0 == 0 {
+        return Named {
+            moved: moved,
+            other: Slot(0),
+        };
+    }
+    Named {
+        moved: moved,
+        other: slot_at(column, i),
+    }
+}
+
+// In one column of neighbours: the words of those whom the two name get the new slots, i and t, then the two slots are exchanged.
+fn settle(column: &mut [u16], named: Named, i: Slot, t: Slot)
+    requires { ⌜ Inside (now column) (i .0) (t .0) × (named .moved .0 ≤ length (now column)) × (named .other .0 ≤ length (now column)) ⌝ }
+    ensures { λ _. ⌜ now (column .exit) ≡ exchangeWords (i .0) (t .0) (put (put (now (column .entry)) (named .moved .0) (i .0)) (named .other .0) (t .0)) ⌝ }
+{
+    put_at(&mut *column, named.moved, i);
+    put_at(&mut *column, named.other, t);
     trade_slots(&mut *column, i, t);
 }
 
-// The neighbours of the link in slot t, and of who is in slot i.
-fn read_neighbours(prev: &[u16], next: &[u16], where_from: &[u16], i: Slot, t: Slot) -> Neighbours
-    requires { ⌜ Inside (now prev) (i .0) (t .0) × Inside (now next) (i .0) (t .0) × Inside (now «where_from») (i .0) (t .0) ⌝ }
-    ensures { λ r. ⌜ Around (now (prev .entry)) (now (next .entry)) (now («where_from» .entry)) (i .0) (t .0) r ⌝ }
+// In both columns of neighbours: the link in slot t and who is in slot i are renamed where their neighbours name them, and exchanged. What both name is read before
+// a word is written, since the two may be neighbours of each other.
+fn exchange_links(prev: &mut [u16], next: &mut [u16], where_from: &[u16], i: Slot, t: Slot)
+    requires { ⌜ LinksInReach (now prev) (now next) (now «where_from») (i .0) (t .0) ⌝ }
+    ensures { λ _. ⌜ (now (prev .exit) ≡ renamedWords (now (prev .entry)) (now (next .entry)) (now («where_from» .entry)) (i .0) (t .0))
+        × (now (next .exit) ≡ renamedWords (now (next .entry)) (now (prev .entry)) (now («where_from» .entry)) (i .0) (t .0)) ⌝ }
 {
-    let prev0 = slot_at(prev, t);
-    let next0 = slot_at(next, t);
-    if slot_at(where_from, i).0 == 0 {
-        return Neighbours {
-            prev0: prev0,
-            next0: next0,
-            prev1: Slot(0),
-            next1: Slot(0),
-        };
-    }
-    Neighbours {
-        prev0: prev0,
-        next0: next0,
-        prev1: slot_at(prev, i),
-        next1: slot_at(next, i),
-    }
+    let after = read_named(&*next, where_from, i, t);
+    let before = read_named(&*prev, where_from, i, t);
+    settle(&mut *prev, after, i, t);
+    settle(&mut *next, before, i, t);
 }
 
-// Exchanges the link in slot t with what is in slot i. All neighbours are read before any of them is written.
+// Exchanges the link in slot t with what is in slot i.
 fn exchange(
     prev: &mut [u16],
     next: &mut [u16],
@@ -120,9 +126,7 @@ fn exchange(
     ensures { λ _. ⌜ Exchanged (lent (now (prev .entry)) (now (next .entry)) (now (payload .entry)) (now («where_from» .entry)))
         (lent (now (prev .exit)) (now (next .exit)) (now (payload .exit)) (now («where_from» .exit))) (i .0) (t .0) ⌝ }
 {
-    let around = read_neighbours(prev, next, where_from, i, t);
-    settle(prev, around.next0, around.next1, i, t);
-    settle(next, around.prev0, around.prev1, i, t);
+    exchange_links(prev, next, &*where_from, i, t);
     trade_slots(where_from, i, t);
     trade_words(payload, i, t);
 }
@@ -155,21 +159,23 @@ fn lay_link(
     Slot(next[laid])
 }
 
-// Lays out the chain that starts in slot start, link after link along next, after those that are laid out. Answers how many are laid out then.
+// Lays out the chain that starts in slot start, link after link along next, after those that are laid out: its first link goes to slot first. Answers how many are
+// laid out then.
 fn lay_chain(
     prev: &mut [u16],
     next: &mut [u16],
     payload: &mut [u32],
     where_from: &mut [u16],
     laid: usize,
+    first: Slot,
     start: Slot,
 ) -> usize
+    requires { ⌜ first .0 ≡ laid + 1 ⌝ }
     requires { ⌜ ((a : Arena) × (l : Laying) × InChain a l (l .i) (start .0) (lent (now prev) (now next) (now payload) (now «where_from»)) laid) ⌝ }
     ensures { λ r. ⌜ ((a : Arena) (l : Laying) → InChain a l (l .i) (start .0) (lent (now (prev .entry)) (now (next .entry)) (now (payload .entry)) (now («where_from» .entry))) laid
         → ChainLaid a l (layChain (stackLength (l .slots)) (l .i) (start .0) l) laid
         (lent (now (prev .exit)) (now (next .exit)) (now (payload .exit)) (now («where_from» .exit))) r) ⌝ }
 {
-    let first = Slot((laid + 1) as u16);
     let mut count = laid;
     let mut t = start;
     loop {
@@ -185,7 +191,7 @@ fn lay_chain(
         if t.0 == 0 {
             return count;
         }
-        // where the chain's first link was put, and not where it started
+        // the chain is closed: next comes back to where its first link is now, not to where it started
         if t.0 == first.0 {
             return count;
         }
@@ -248,12 +254,14 @@ fn lay_chains(prev: &mut [u16], next: &mut [u16], payload: &mut [u32], where_fro
     let mut found = lowest_link(&*where_from, laid);
     while found.0 != 0 {
         let start = start_of(&*prev, found);
+        let first = Slot((laid + 1) as u16);
         laid = lay_chain(
             &mut *prev,
             &mut *next,
             &mut *payload,
             &mut *where_from,
             laid,
+            first,
             start,
         );
         // no link waits below the slot that was found, so that the search goes on there and all searches together are linear

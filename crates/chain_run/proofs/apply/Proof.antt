@@ -1,7 +1,7 @@
 -- `chain_run::apply` meets its contract. A command on narrowed pointers is the command, and its code says which edit it is. Assumes nothing.
 use native.Mathlib.Omega.{arith}
 use borrow.Author.Needs.{needs}
-use Rattle.chain_run.proofs.Step.{connects, breaks-prev, breaks-next, exchanges, removes, no-code}
+use Rattle.chain_run.proofs.Step.{connects, breaks, exchanges, removes, no-code}
 use Rattle.chain_run.proofs.apply.Statement.{statement}
 use Rattle.chain_run.proofs.apply.Tie as tie
 
@@ -17,23 +17,17 @@ connect-requires c κs = search needs
 number-requires : tie.Need-number-requires
 number-requires c κs = search needs
 
-break-prev-requires : tie.Need-break-prev-requires
-break-prev-requires c κs = search needs
+break-side-requires : tie.Need-break-side-requires
+break-side-requires c κs = search needs
 
 number-requires-2 : tie.Need-number-requires-2
 number-requires-2 c κs = search needs
 
-break-next-requires : tie.Need-break-next-requires
-break-next-requires c κs = search needs
-
-number-requires-3 : tie.Need-number-requires-3
-number-requires-3 c κs = search needs
-
 exchange-next-requires : tie.Need-exchange-next-requires
 exchange-next-requires c κs = search needs
 
-number-requires-4 : tie.Need-number-requires-4
-number-requires-4 c κs = search needs
+number-requires-3 : tie.Need-number-requires-3
+number-requires-3 c κs = search needs
 
 remove-requires : tie.Need-remove-requires
 remove-requires c κs = search needs
@@ -59,6 +53,11 @@ same-length-5 c = search needs
 returns : tie.Need-returns
 returns c = connects _ _ (c .before .before .before .before .before .before .before .before .before .before .before .before .before .before .before .before .before .before .before .before .before .before .pre) _ _ _ (c .before .before .before .before .before .before .before .before .before .before .before .before .before .before .narrow .ensures) (c .before .before .before .before .before .before .before .before .before .before .before .before .before .narrow2 .ensures) _ _ _ (c .number .ensures) (c .before .before .before .before .before .before .before .before .before .before .before .match .keys1) (c .before .before .before .before .before .connect .ensures)
 
+returns-2 : tie.Need-returns-2
+returns-2 c =
+    let low = c .before .if1 .taken in
+    no-code _ _ _ (c .match .rest .1) (λ e. omega arith) (λ e. omega arith) (λ e. omega arith) (λ e. omega arith)
+
 same-length-6 : tie.Need-same-length-6
 same-length-6 c = search needs
 
@@ -74,13 +73,8 @@ same-length-9 c = search needs
 same-length-10 : tie.Need-same-length-10
 same-length-10 c = search needs
 
-returns-2 : tie.Need-returns-2
-returns-2 c = breaks-prev _ _ (c .before .before .before .before .before .before .before .before .before .before .before .before .before .before .before .before .before .before .before .before .before .before .pre) _ _ _ (c .before .before .before .before .before .before .before .before .before .before .before .before .before .before .narrow .ensures) (c .before .before .before .before .before .before .before .before .before .before .before .before .before .narrow2 .ensures) _ _ _ (c .number2 .ensures) (c .before .before .before .before .before .before .before .before .before .before .before .match .keys2) (c .before .before .before .before .before .break-prev .ensures)
-
 returns-3 : tie.Need-returns-3
-returns-3 c =
-    let low = c .before .if1 .taken in
-    no-code _ _ _ (c .match .rest .0 .1) (c .match .rest .1) (λ e. omega arith) (λ e. omega arith) (λ e. omega arith)
+returns-3 c = breaks _ _ (c .before .before .before .before .before .before .before .before .before .before .before .before .before .before .before .before .before .before .before .before .before .before .pre) _ _ _ (c .before .before .before .before .before .before .before .before .before .before .before .before .before .before .narrow .ensures) (c .before .before .before .before .before .before .before .before .before .before .before .before .before .narrow2 .ensures) _ _ _ (c .number2 .ensures) (omega (arith, c .before .before .before .before .before .before .before .before .before .before .before .before .if1 .left)) (c .before .before .before .before .before .before .before .before .before .before .before .if2 .taken) (c .before .before .before .before .before .break-side .ensures)
 
 same-length-11 : tie.Need-same-length-11
 same-length-11 c = search needs
@@ -98,7 +92,7 @@ same-length-15 : tie.Need-same-length-15
 same-length-15 c = search needs
 
 returns-4 : tie.Need-returns-4
-returns-4 c = breaks-next _ _ (c .before .before .before .before .before .before .before .before .before .before .before .before .before .before .before .before .before .before .before .before .before .before .pre) _ _ _ (c .before .before .before .before .before .before .before .before .before .before .before .before .before .before .narrow .ensures) (c .before .before .before .before .before .before .before .before .before .before .before .before .before .narrow2 .ensures) _ _ _ (c .number3 .ensures) (c .before .before .before .before .before .before .before .before .before .before .before .match2 .keys1) (c .before .before .before .before .before .break-next .ensures)
+returns-4 c = exchanges _ _ (c .before .before .before .before .before .before .before .before .before .before .before .before .before .before .before .before .before .before .before .before .before .before .before .pre) _ _ _ (c .before .before .before .before .before .before .before .before .before .before .before .before .before .before .before .narrow .ensures) (c .before .before .before .before .before .before .before .before .before .before .before .before .before .before .narrow2 .ensures) _ _ _ (c .number3 .ensures) (c .before .before .before .before .before .before .before .before .before .before .before .match2 .keys1) (c .before .before .before .before .before .exchange-next .ensures)
 
 same-length-16 : tie.Need-same-length-16
 same-length-16 c = search needs
@@ -116,30 +110,12 @@ same-length-20 : tie.Need-same-length-20
 same-length-20 c = search needs
 
 returns-5 : tie.Need-returns-5
-returns-5 c = exchanges _ _ (c .before .before .before .before .before .before .before .before .before .before .before .before .before .before .before .before .before .before .before .before .before .before .pre) _ _ _ (c .before .before .before .before .before .before .before .before .before .before .before .before .before .before .narrow .ensures) (c .before .before .before .before .before .before .before .before .before .before .before .before .before .narrow2 .ensures) _ _ _ (c .number4 .ensures) (c .before .before .before .before .before .before .before .before .before .before .before .match2 .keys2) (c .before .before .before .before .before .exchange-next .ensures)
-
-same-length-21 : tie.Need-same-length-21
-same-length-21 c = search needs
-
-same-length-22 : tie.Need-same-length-22
-same-length-22 c = search needs
-
-same-length-23 : tie.Need-same-length-23
-same-length-23 c = search needs
-
-same-length-24 : tie.Need-same-length-24
-same-length-24 c = search needs
-
-same-length-25 : tie.Need-same-length-25
-same-length-25 c = search needs
+returns-5 c = removes _ _ (c .before .before .before .before .before .before .before .before .before .before .before .before .before .before .before .before .before .before .before .before .before .before .before .before .before .before .before .before .before .pre) _ _ _ (c .before .before .before .before .before .before .before .before .before .before .before .before .before .before .before .before .before .before .before .before .before .narrow .ensures) (c .before .before .before .before .before .before .before .before .before .before .before .before .before .before .before .before .before .before .before .before .narrow2 .ensures) _ _ (c .before .before .before .before .before .before .before .before .before .before .before .before .before .before .before .before .before .match2 .keys2) (c .before .before .before .before .before .before .before .before .before .before .before .remove .result) (c .before .before .before .before .before .before .before .before .before .before .before .remove .ensures) (c .removal-number .ensures)
 
 returns-6 : tie.Need-returns-6
-returns-6 c = removes _ _ (c .before .before .before .before .before .before .before .before .before .before .before .before .before .before .before .before .before .before .before .before .before .before .before .before .before .before .before .before .pre) _ _ _ (c .before .before .before .before .before .before .before .before .before .before .before .before .before .before .before .before .before .before .before .before .narrow .ensures) (c .before .before .before .before .before .before .before .before .before .before .before .before .before .before .before .before .before .before .before .narrow2 .ensures) _ _ (c .before .before .before .before .before .before .before .before .before .before .before .before .before .before .before .before .before .match2 .keys3) (c .before .before .before .before .before .before .before .before .before .before .before .remove .result) (c .before .before .before .before .before .before .before .before .before .before .before .remove .ensures) (c .removal-number .ensures)
-
-returns-7 : tie.Need-returns-7
-returns-7 c =
-    let high = c .before .if1 .left in
-    no-code _ _ _ (λ e. omega arith) (λ e. omega arith) (c .match2 .rest .0 .0 .1) (c .match2 .rest .0 .1) (c .match2 .rest .1)
+returns-6 c =
+    let high = c .before .if2 .left in
+    no-code _ _ _ (λ e. omega arith) (λ e. omega arith) (λ e. omega arith) (c .match2 .rest .0 .1) (c .match2 .rest .1)
 
 pub apply-spec : {M : Type 1} → statement M
 apply-spec =
@@ -149,12 +125,10 @@ apply-spec =
     narrow-requires-2
     connect-requires
     number-requires
-    break-prev-requires
+    break-side-requires
     number-requires-2
-    break-next-requires
-    number-requires-3
     exchange-next-requires
-    number-requires-4
+    number-requires-3
     remove-requires
     removal-number-requires
     same-length
@@ -163,12 +137,12 @@ apply-spec =
     same-length-4
     same-length-5
     returns
+    returns-2
     same-length-6
     same-length-7
     same-length-8
     same-length-9
     same-length-10
-    returns-2
     returns-3
     same-length-11
     same-length-12
@@ -182,10 +156,4 @@ apply-spec =
     same-length-19
     same-length-20
     returns-5
-    same-length-21
-    same-length-22
-    same-length-23
-    same-length-24
-    same-length-25
-    returns-6
-    returns-7)
+    returns-6)

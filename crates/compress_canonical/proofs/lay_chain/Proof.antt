@@ -7,7 +7,6 @@ use native.Mathlib.Omega.{arith}
 use borrow.Author.Needs.{needs}
 use lib.ListN.{length}
 use Rattle.compress_canonical.specs.Lent.{lent, AsLong}
-use Rattle.compress_canonical.proofs.LinkInPlace.{place-small}
 use Rattle.compress_canonical.proofs.ChainInPlace.{Going, going-starts, going-chain, going-below, going-on, going-over}
 use Rattle.compress_canonical.proofs.lay_chain.Statement.{statement}
 use Rattle.compress_canonical.proofs.lay_chain.Tie as tie
@@ -20,20 +19,14 @@ abbrev μ-loop : tie.MeasureT-loop
 μ-loop prev₀ next₀ payload₀ where-from₀ laid first count₀ t₀ prev next payload where-from count t =
     length where-from - count
 
-add-t10 : tie.Need-add-t10 Inv-loop μ-loop
-add-t10 c = let ready = c .before .before .before .before .pre in omega (arith, place-small (ready .0) (ready .1) (ready .1 .i) _ _ _ (ready .2))
-
-cast-t11 : tie.Need-cast-t11 Inv-loop μ-loop
-cast-t11 c = let ready = c .before .before .before .before .pre in omega (arith, place-small (ready .0) (ready .1) (ready .1 .i) _ _ _ (ready .2))
-
 loop-holds : tie.Need-loop-holds Inv-loop μ-loop
-loop-holds c = (omega arith, going-starts _ _ _, refl)
+loop-holds c = (omega arith, going-starts _ _ _, c .before .before .before .before .pre .0)
 
 lay-link-requires : tie.Need-lay-link-requires Inv-loop μ-loop
-lay-link-requires c κs = going-chain (c .before .before .before .before .loop .inv .1) (c .before .before .before .before .before .before .before .before .before .pre)
+lay-link-requires c κs = going-chain (c .before .before .before .before .loop .inv .1) (c .before .before .before .before .before .before .before .before .before .pre .1)
 
 add-count : tie.Need-add-count Inv-loop μ-loop
-add-count c = omega (arith, going-below (c .before .before .before .before .before .before .before .before .before .before .before .before .before .loop .inv .1) (c .before .before .before .before .before .before .before .before .before .before .before .before .before .before .before .before .before .before .pre) .1)
+add-count c = omega (arith, going-below (c .before .before .before .before .before .before .before .before .before .before .before .before .before .loop .inv .1) (c .before .before .before .before .before .before .before .before .before .before .before .before .before .before .before .before .before .before .pre .1) .1)
 
 same-length : tie.Need-same-length Inv-loop μ-loop
 same-length c = search needs
@@ -66,7 +59,7 @@ returns-2 : tie.Need-returns-2 Inv-loop μ-loop
 returns-2 c = going-over (c .before .before .before .before .before .before .before .before .before .before .before .before .before .before .before .before .before .before .loop .inv .1) _ _ _ (c .before .before .before .before .before .before .before .before .before .before .before .before .before .before .before .before .before .before .loop .inv .2) (c .before .before .before .before .before .before .before .before .before .before .before .before .before .lay-link .ensures) (inr (c .if2 .taken))
 
 loop-less : tie.Need-loop-less Inv-loop μ-loop
-loop-less c = omega (arith, c .before .before .before .before .before .before .before .before .before .before .before .before .before .lay-link .kept, going-below (c .before .before .before .before .before .before .before .before .before .before .before .before .before .before .before .before .before .before .loop .inv .1) (c .before .before .before .before .before .before .before .before .before .before .before .before .before .before .before .before .before .before .before .before .before .before .before .pre) .0)
+loop-less c = omega (arith, c .before .before .before .before .before .before .before .before .before .before .before .before .before .lay-link .kept, going-below (c .before .before .before .before .before .before .before .before .before .before .before .before .before .before .before .before .before .before .loop .inv .1) (c .before .before .before .before .before .before .before .before .before .before .before .before .before .before .before .before .before .before .before .before .before .before .before .pre .1) .0)
 
 loop-again : tie.Need-loop-again Inv-loop μ-loop
 loop-again c = (
@@ -81,8 +74,6 @@ lay-chain-spec =
     (tie.spec
     Inv-loop
     μ-loop
-    add-t10
-    cast-t11
     loop-holds
     lay-link-requires
     add-count

@@ -1,10 +1,12 @@
 -- `compress_canonical::lay_chains` meets its contract. The loop's invariant: for whatever arena is being laid out, the definition is between two chains at the
 -- state that the columns hold, and the lowest link that waits was found (ChainsInPlace). The measure is the number of slots that are left. Assumes nothing.
 use Prim.Native.Nat.{_-_}
+use mathlib.Core.Path.{refl}
 use native.Mathlib.Omega.{arith}
 use borrow.Author.Needs.{needs}
 use lib.ListN.{length}
 use Rattle.compress_canonical.specs.Lent.{lent, AsLong}
+use Rattle.compress_canonical.proofs.LinkInPlace.{place-small}
 use Rattle.compress_canonical.proofs.ChainsInPlace.{LayingOut, laying-starts, larger-within, ready-small, some-rooted, some-chain, some-more, goes-on, ends}
 use Rattle.compress_canonical.proofs.lay_chains.Statement.{statement}
 use Rattle.compress_canonical.proofs.lay_chains.Tie as tie
@@ -25,8 +27,18 @@ loop-holds c = (omega arith, laying-starts _ _ (c .lowest-link .ensures))
 start-of-requires : tie.Need-start-of-requires Inv-loop μ-loop
 start-of-requires c κs = some-rooted (c .before .before .before .loop .inv .1) (c .before .if1 .taken) (c .before .before .before .before .before .before .before .before .before .before .pre)
 
+add-t15 : tie.Need-add-t15 Inv-loop μ-loop
+add-t15 c =
+    let chain = some-chain (c .before .before .before .before .loop .inv .1) (c .before .before .if1 .taken) _ (c .start-of .ensures) (c .before .before .before .before .before .before .before .before .before .before .before .pre) in
+    omega (arith, place-small (chain .0) (chain .1) (chain .1 .i) _ _ _ (chain .2))
+
+cast-t16 : tie.Need-cast-t16 Inv-loop μ-loop
+cast-t16 c =
+    let chain = some-chain (c .before .before .before .before .loop .inv .1) (c .before .before .if1 .taken) _ (c .start-of .ensures) (c .before .before .before .before .before .before .before .before .before .before .before .pre) in
+    omega (arith, place-small (chain .0) (chain .1) (chain .1 .i) _ _ _ (chain .2))
+
 lay-chain-requires : tie.Need-lay-chain-requires Inv-loop μ-loop
-lay-chain-requires c κs = some-chain (c .before .before .before .before .before .before .before .before .loop .inv .1) (c .before .before .before .before .before .before .if1 .taken) _ (c .before .before .before .before .start-of .ensures) (c .before .before .before .before .before .before .before .before .before .before .before .before .before .before .before .pre)
+lay-chain-requires c κs = (refl, some-chain (c .before .before .before .before .before .before .before .before .loop .inv .1) (c .before .before .before .before .before .before .if1 .taken) _ (c .before .before .before .before .start-of .ensures) (c .before .before .before .before .before .before .before .before .before .before .before .before .before .before .before .pre))
 
 cast-larger : tie.Need-cast-larger Inv-loop μ-loop
 cast-larger c = search needs
@@ -76,6 +88,8 @@ lay-chains-spec =
     lowest-link-requires
     loop-holds
     start-of-requires
+    add-t15
+    cast-t16
     lay-chain-requires
     cast-larger
     sub-larger
