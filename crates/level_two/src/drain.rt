@@ -1,9 +1,12 @@
 // The drain of a chain, as a host calls it.
-ghost use mathlib.Core.List.{[], _∷_};
-ghost use Rattle.definitions.specs.Arena.{arena, capacityLimit, largestGeneration};
+ghost use mathlib.Core.List.{List, [], _∷_};
+ghost use mathlib.Core.Path.{_≡_};
+ghost use Prim.Native.Nat.{ℕ};
+ghost use Rattle.definitions.specs.Arena.{Arena, arena, capacityLimit, largestGeneration};
 ghost use Rattle.definitions.specs.Reply.{reply};
 ghost use Rattle.definitions.specs.Read.{pointer};
 ghost use Rattle.definitions.specs.Calls.{Answers, Drain};
+ghost use Rattle.chain_drain.specs.Drained.{drainReply};
 use chain_arena::Checked;
 use chain_arena::check;
 use chain_drain::Drained;
@@ -19,6 +22,32 @@ pub struct DrainResult {
     pub broken: u32,
     pub items: u32,
     pub overflowed: u32,
+}
+
+// What the host is told of a drain on an arena that passed the check.
+fn drain_result(d: Drained) -> DrainResult
+    ensures { λ r. ⌜ (r .broken ≡ 0) × ((a : Arena) (l : List ℕ) → reply (r .number) (r .items ∷ r .overflowed ∷ []) a l ≡ drainReply d a l) ⌝ }
+{
+    match d {
+        Drained::Done { items, overflowed } => DrainResult {
+            number: 0,
+            broken: 0,
+            items: items,
+            overflowed: overflowed,
+        },
+        Drained::Stale => DrainResult {
+            number: 12,
+            broken: 0,
+            items: 0,
+            overflowed: 0,
+        },
+        Drained::Short => DrainResult {
+            number: 14,
+            broken: 0,
+            items: 0,
+            overflowed: 0,
+        },
+    }
 }
 
 // Removes every link of p's chain, in the order of a walk from p, and reports each as it is at its own removal: slot, generation, prev, next, payload.
@@ -50,24 +79,5 @@ pub extern "C" fn chain_arena_drain(
         inx: Slot(p_slot),
         generation: Gen(p_generation),
     };
-    match drain(prev, next, generation, payload, header, p, report) {
-        Drained::Done { items, overflowed } => DrainResult {
-            number: 0,
-            broken: 0,
-            items: items,
-            overflowed: overflowed,
-        },
-        Drained::Stale => DrainResult {
-            number: 12,
-            broken: 0,
-            items: 0,
-            overflowed: 0,
-        },
-        Drained::Short => DrainResult {
-            number: 14,
-            broken: 0,
-            items: 0,
-            overflowed: 0,
-        },
-    }
+    drain_result(drain(prev, next, generation, payload, header, p, report))
 }

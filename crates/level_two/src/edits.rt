@@ -1,9 +1,12 @@
 // Edits of interlinks and removal, as a host calls them.
-ghost use mathlib.Core.List.{[], _∷_};
-ghost use Rattle.definitions.specs.Arena.{arena, capacityLimit, largestGeneration};
+ghost use mathlib.Core.List.{List, [], _∷_};
+ghost use mathlib.Core.Path.{_≡_};
+ghost use Prim.Native.Nat.{ℕ};
+ghost use Rattle.definitions.specs.Arena.{Arena, arena, capacityLimit, largestGeneration};
 ghost use Rattle.definitions.specs.Reply.{reply};
 ghost use Rattle.definitions.specs.Read.{pointer};
 ghost use Rattle.definitions.specs.Calls.{Answers, Connect, BreakPrev, BreakNext, ExchangeNext, Remove};
+ghost use Rattle.links.specs.Links.{removalReply};
 use chain_arena::Checked;
 use chain_arena::check;
 use chain_edits::break_next;
@@ -177,6 +180,35 @@ pub extern "C" fn chain_arena_exchange_next(
     }
 }
 
+// What the host is told of a removal from an arena that passed the check.
+fn remove_result(removed: InvalidationResult) -> RemoveResult
+    ensures { λ r. ⌜ (r .broken ≡ 0) × ((a : Arena) (l : List ℕ) → reply (r .number) (r .prev ∷ r .next ∷ r .payload ∷ []) a l ≡ removalReply removed a l) ⌝ }
+{
+    match removed {
+        InvalidationResult::Success(l) => RemoveResult {
+            number: 0,
+            broken: 0,
+            prev: l.prev.0 as u32,
+            next: l.next.0 as u32,
+            payload: l.t,
+        },
+        InvalidationResult::GenerationOverflow(l) => RemoveResult {
+            number: 100,
+            broken: 0,
+            prev: l.prev.0 as u32,
+            next: l.next.0 as u32,
+            payload: l.t,
+        },
+        InvalidationResult::InvalidPtr => RemoveResult {
+            number: 12,
+            broken: 0,
+            prev: 0,
+            next: 0,
+            payload: 0,
+        },
+    }
+}
+
 // Removes the link at p, and answers what it was.
 #[no_mangle]
 pub extern "C" fn chain_arena_remove(
@@ -206,27 +238,5 @@ pub extern "C" fn chain_arena_remove(
         inx: Slot(p_slot),
         generation: Gen(p_generation),
     };
-    match remove(prev, next, generation, payload, header, p) {
-        InvalidationResult::Success(l) => RemoveResult {
-            number: 0,
-            broken: 0,
-            prev: l.prev.0 as u32,
-            next: l.next.0 as u32,
-            payload: l.t,
-        },
-        InvalidationResult::GenerationOverflow(l) => RemoveResult {
-            number: 100,
-            broken: 0,
-            prev: l.prev.0 as u32,
-            next: l.next.0 as u32,
-            payload: l.t,
-        },
-        InvalidationResult::InvalidPtr => RemoveResult {
-            number: 12,
-            broken: 0,
-            prev: 0,
-            next: 0,
-            payload: 0,
-        },
-    }
+    remove_result(remove(prev, next, generation, payload, header, p))
 }

@@ -1,5 +1,6 @@
 -- `level_two::chain_arena_drain` meets its contract. An arena that the check refuses is as it was; one that passes is well formed, and
 -- `chain_drain::drain` says the rest. Assumes nothing.
+use mathlib.Core.Path.{_∙_}
 use borrow.Author.Needs.{needs}
 use Rattle.definitions.specs.Calls.{accepted}
 use Rattle.chain_arena.proofs.Answers.{answers-passed, answers-refused, passed-verdict}
@@ -40,14 +41,8 @@ returns c = answers-refused _ _ _ _ _ (c .before .before .before .check .ensures
 drain-requires : tie.Need-drain-requires
 drain-requires c κs = well-formed-if-passes _ _ (passed-verdict _ _ (c .before .before .before .before .before .before .before .before .check .ensures) (c .before .before .before .before .before .before .enum-told .given .1))
 
-enum-known-items : tie.Need-enum-known-items
-enum-known-items c = search needs
-
-enum-told-2 : tie.Need-enum-told-2
-enum-told-2 c = search needs
-
-enum-told-3 : tie.Need-enum-told-3
-enum-told-3 c = search needs
+drain-result-requires : tie.Need-drain-result-requires
+drain-result-requires c κs = search needs
 
 same-length-6 : tie.Need-same-length-6
 same-length-6 c = search needs
@@ -69,51 +64,9 @@ same-length-11 c = search needs
 
 returns-2 : tie.Need-returns-2
 unfolding accepted
-returns-2 c = answers-passed _ _ _ _ _ (c .before .before .before .before .before .before .before .before .before .before .before .before .before .before .before .before .before .before .before .before .before .before .before .before .check .ensures) (c .before .before .before .before .before .before .before .before .before .before .before .before .before .before .before .before .before .before .before .before .before .before .enum-told .given .1) _ (rw (c .before .items .given .1) at (c .before .before .before .before .before .before .before .before .before .before .before .before .before .before .before .drain .ensures))
-
-same-length-12 : tie.Need-same-length-12
-same-length-12 c = search needs
-
-same-length-13 : tie.Need-same-length-13
-same-length-13 c = search needs
-
-same-length-14 : tie.Need-same-length-14
-same-length-14 c = search needs
-
-same-length-15 : tie.Need-same-length-15
-same-length-15 c = search needs
-
-same-length-16 : tie.Need-same-length-16
-same-length-16 c = search needs
-
-same-length-17 : tie.Need-same-length-17
-same-length-17 c = search needs
-
-returns-3 : tie.Need-returns-3
-unfolding accepted
-returns-3 c = answers-passed _ _ _ _ _ (c .before .before .before .before .before .before .before .before .before .before .before .before .before .before .before .before .before .before .before .before .before .before .before .check .ensures) (c .before .before .before .before .before .before .before .before .before .before .before .before .before .before .before .before .before .before .before .before .before .enum-told .given .1) _ (rw (c .enum-told2 .given .1) at (c .before .before .before .before .before .before .before .before .before .before .before .before .before .before .drain .ensures))
-
-same-length-18 : tie.Need-same-length-18
-same-length-18 c = search needs
-
-same-length-19 : tie.Need-same-length-19
-same-length-19 c = search needs
-
-same-length-20 : tie.Need-same-length-20
-same-length-20 c = search needs
-
-same-length-21 : tie.Need-same-length-21
-same-length-21 c = search needs
-
-same-length-22 : tie.Need-same-length-22
-same-length-22 c = search needs
-
-same-length-23 : tie.Need-same-length-23
-same-length-23 c = search needs
-
-returns-4 : tie.Need-returns-4
-unfolding accepted
-returns-4 c = answers-passed _ _ _ _ _ (c .before .before .before .before .before .before .before .before .before .before .before .before .before .before .before .before .before .before .before .before .before .before .before .check .ensures) (c .before .before .before .before .before .before .before .before .before .before .before .before .before .before .before .before .before .before .before .before .before .enum-told .given .1) _ (rw (c .enum-told3 .given .1) at (c .before .before .before .before .before .before .before .before .before .before .before .before .before .before .drain .ensures))
+returns-2 c =
+    let told = c .drain-result .ensures in
+    rw (told .0) (answers-passed _ _ _ _ _ (c .before .before .before .before .before .before .before .before .before .before .before .before .before .before .before .before .before .before .before .before .before .before .check .ensures) (c .before .before .before .before .before .before .before .before .before .before .before .before .before .before .before .before .before .before .before .before .enum-told .given .1) _ (told .1 _ _ ∙ c .before .before .before .before .before .before .before .before .before .before .before .before .before .drain .ensures))
 
 pub chain-arena-drain-spec : {M : Type 1} → statement M
 chain-arena-drain-spec =
@@ -130,27 +83,11 @@ chain-arena-drain-spec =
     same-length-5
     returns
     drain-requires
-    enum-known-items
-    enum-told-2
-    enum-told-3
+    drain-result-requires
     same-length-6
     same-length-7
     same-length-8
     same-length-9
     same-length-10
     same-length-11
-    returns-2
-    same-length-12
-    same-length-13
-    same-length-14
-    same-length-15
-    same-length-16
-    same-length-17
-    returns-3
-    same-length-18
-    same-length-19
-    same-length-20
-    same-length-21
-    same-length-22
-    same-length-23
-    returns-4)
+    returns-2)

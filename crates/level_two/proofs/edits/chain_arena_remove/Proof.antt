@@ -1,5 +1,6 @@
 -- `level_two::chain_arena_remove` meets its contract. An arena that the check refuses is as it was; one that passes is well formed, and `chain_edits::remove` says the rest.
 -- Assumes nothing.
+use mathlib.Core.Path.{_∙_}
 use borrow.Author.Needs.{needs}
 use Rattle.definitions.specs.Calls.{accepted}
 use Rattle.chain_arena.proofs.Answers.{answers-passed, answers-refused, passed-verdict}
@@ -40,26 +41,8 @@ returns c = answers-refused _ _ _ _ _ (c .before .before .before .check .ensures
 remove-requires : tie.Need-remove-requires
 remove-requires c κs = well-formed-if-passes _ _ (passed-verdict _ _ (c .before .before .before .before .before .before .before .check .ensures) (c .before .before .before .before .before .enum-told .given .1))
 
-enum-known-l : tie.Need-enum-known-l
-enum-known-l c = search needs
-
-cast-t38 : tie.Need-cast-t38
-cast-t38 c = search needs
-
-cast-t39 : tie.Need-cast-t39
-cast-t39 c = search needs
-
-enum-known-l-2 : tie.Need-enum-known-l-2
-enum-known-l-2 c = search needs
-
-cast-t40 : tie.Need-cast-t40
-cast-t40 c = search needs
-
-cast-t41 : tie.Need-cast-t41
-cast-t41 c = search needs
-
-enum-told-2 : tie.Need-enum-told-2
-enum-told-2 c = search needs
+remove-result-requires : tie.Need-remove-result-requires
+remove-result-requires c κs = search needs
 
 same-length-6 : tie.Need-same-length-6
 same-length-6 c = search needs
@@ -78,45 +61,9 @@ same-length-10 c = search needs
 
 returns-2 : tie.Need-returns-2
 unfolding accepted
-returns-2 c = answers-passed _ _ _ _ _ (c .before .before .before .before .before .before .before .before .before .before .before .before .before .before .before .before .before .before .before .before .before .before .before .check .ensures) (c .before .before .before .before .before .before .before .before .before .before .before .before .before .before .before .before .before .before .before .before .before .enum-told .given .1) _ (rw (c .before .before .before .l .given .1) at (c .before .before .before .before .before .before .before .before .before .before .before .before .before .before .before .remove .ensures))
-
-same-length-11 : tie.Need-same-length-11
-same-length-11 c = search needs
-
-same-length-12 : tie.Need-same-length-12
-same-length-12 c = search needs
-
-same-length-13 : tie.Need-same-length-13
-same-length-13 c = search needs
-
-same-length-14 : tie.Need-same-length-14
-same-length-14 c = search needs
-
-same-length-15 : tie.Need-same-length-15
-same-length-15 c = search needs
-
-returns-3 : tie.Need-returns-3
-unfolding accepted
-returns-3 c = answers-passed _ _ _ _ _ (c .before .before .before .before .before .before .before .before .before .before .before .before .before .before .before .before .before .before .before .before .before .before .before .check .ensures) (c .before .before .before .before .before .before .before .before .before .before .before .before .before .before .before .before .before .before .before .before .before .enum-told .given .1) _ (rw (c .before .before .before .l2 .given .1) at (c .before .before .before .before .before .before .before .before .before .before .before .before .before .before .before .remove .ensures))
-
-same-length-16 : tie.Need-same-length-16
-same-length-16 c = search needs
-
-same-length-17 : tie.Need-same-length-17
-same-length-17 c = search needs
-
-same-length-18 : tie.Need-same-length-18
-same-length-18 c = search needs
-
-same-length-19 : tie.Need-same-length-19
-same-length-19 c = search needs
-
-same-length-20 : tie.Need-same-length-20
-same-length-20 c = search needs
-
-returns-4 : tie.Need-returns-4
-unfolding accepted
-returns-4 c = answers-passed _ _ _ _ _ (c .before .before .before .before .before .before .before .before .before .before .before .before .before .before .before .before .before .before .before .before .check .ensures) (c .before .before .before .before .before .before .before .before .before .before .before .before .before .before .before .before .before .before .enum-told .given .1) _ (rw (c .enum-told2 .given .1) at (c .before .before .before .before .before .before .before .before .before .before .before .before .remove .ensures))
+returns-2 c =
+    let told = c .remove-result .ensures in
+    rw (told .0) (answers-passed _ _ _ _ _ (c .before .before .before .before .before .before .before .before .before .before .before .before .before .before .before .before .before .before .before .check .ensures) (c .before .before .before .before .before .before .before .before .before .before .before .before .before .before .before .before .before .enum-told .given .1) _ (told .1 _ _ ∙ c .before .before .before .before .before .before .before .before .before .before .before .remove .ensures))
 
 pub chain-arena-remove-spec : {M : Type 1} → statement M
 chain-arena-remove-spec =
@@ -133,28 +80,10 @@ chain-arena-remove-spec =
     same-length-5
     returns
     remove-requires
-    enum-known-l
-    cast-t38
-    cast-t39
-    enum-known-l-2
-    cast-t40
-    cast-t41
-    enum-told-2
+    remove-result-requires
     same-length-6
     same-length-7
     same-length-8
     same-length-9
     same-length-10
-    returns-2
-    same-length-11
-    same-length-12
-    same-length-13
-    same-length-14
-    same-length-15
-    returns-3
-    same-length-16
-    same-length-17
-    same-length-18
-    same-length-19
-    same-length-20
-    returns-4)
+    returns-2)
