@@ -26,7 +26,7 @@
 //! # Levels
 //!
 //! The features `level-one`, `level-two` and `level-three`, all on by default, each stand alone. A feature builds its
-//! level's archive with the Rattle toolchain and links it; the calls of the others are then not there.
+//! level's archive with the Rattle toolchain and links it. The calls of a level whose feature is off are not there.
 //!
 //! # Buffers do not overlap
 //!

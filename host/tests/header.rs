@@ -1,7 +1,6 @@
 //! include/chain_arena.h declares the calls as the archives have them: every_call.c makes each one and prints every word
 //! that it answers. The README's example for C is tried too.
 
-use std::fs;
 use std::path::{Path, PathBuf};
 use std::process::Command;
 
@@ -86,10 +85,10 @@ fn a_c_program_makes_every_call() {
 #[cfg(feature = "level-three")]
 #[test]
 fn the_example_of_the_readme_runs() {
-    let readme = fs::read_to_string(package().join("../README.md")).unwrap();
+    let readme = std::fs::read_to_string(package().join("../README.md")).unwrap();
     let (_, example) = readme.split_once("```c\n").expect("an example for C");
     let (example, _) = example.split_once("```").expect("the example's end");
     let source = Path::new(env!("CARGO_TARGET_TMPDIR")).join("readme.c");
-    fs::write(&source, example).unwrap();
+    std::fs::write(&source, example).unwrap();
     assert_eq!(printed(&source, "readme"), "0: 1 5 3 4 2\n");
 }

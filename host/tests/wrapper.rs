@@ -145,11 +145,12 @@ fn a_walk_gives_the_whole_chain_and_then_none() {
     let arena = columns.lent();
     for (from, slots) in [(1, [1, 5]), (5, [5, 1]), (2, [2, 4]), (4, [4, 2])] {
         let mut steps = arena.walk(p(from)).unwrap();
-        assert_eq!(steps.by_ref().map(|p| p.slot).collect::<Vec<_>>(), slots);
+        assert!(steps.by_ref().eq(slots.map(p)));
         assert_eq!((steps.next(), steps.next()), (None, None));
         let mut chain = arena.chain(p(from)).unwrap();
         assert!(chain.by_ref().eq(slots.map(p)));
         assert_eq!((chain.next(), chain.next()), (None, None));
+        assert_eq!(walked(arena, from), slots);
     }
 }
 

@@ -128,9 +128,48 @@ fn level_two(a: &mut Arena, call: &mut Call) -> Option<Reply> {
         Call::SetGeneration(to) => plain(arena.set_generation(*to)),
         Call::IncGeneration => reply(arena.inc_generation().map(|done| (number(done.overflowed), vec![]))),
         Call::CanonicalizeFreelist => plain(arena.canonicalize_freelist()),
-        Call::Run(commands, answers) => plain(arena.run_words(commands, answers)),
+        Call::Run(commands, answers) => plain(run(&mut arena, commands, answers)),
         _ => return None,
     })
+}
+
+/// A run that is built where its words are commands and have room for their answers, else one of words.
+#[cfg(level_two)]
+fn run(arena: &mut chain_arena::ArenaMut<'_>, words: &[u32], answers: &mut [u32]) -> Result<(), Refusal> {
+    let (commands, rest) = words.as_chunks();
+    let Some(typed) = commands.iter().map(command).collect::<Option<Vec<_>>>() else {
+        return arena.run_words(words, answers);
+    };
+    if !rest.is_empty() || answers.len() < typed.len() {
+        return arena.run_words(words, answers);
+    }
+    let mut room = vec![[0; chain_arena::Command::WORDS]; typed.len()];
+    let mut run = chain_arena::Run::new(&mut room, answers);
+    for &command in &typed {
+        run.push(command).expect("there is room for every command");
+    }
+    let found: Vec<chain_arena::Answer> = arena.run(&mut run)?.collect();
+    assert!(found.iter().map(|answer| answer.command).eq(typed));
+    for (answer, &word) in found.iter().zip(&*answers) {
+        assert_eq!(answer.result.map_or_else(Refusal::number, |done| number(done.overflowed)), word);
+    }
+    Ok(())
+}
+
+/// The command of five words, none if they are no command. Words that a command ignores are not kept.
+#[cfg(level_two)]
+fn command(&[code, p, p_generation, q, q_generation]: &[u32; 5]) -> Option<chain_arena::Command> {
+    use chain_arena::Command;
+    let p = chain_arena::Ptr { slot: p.try_into().ok()?, generation: p_generation };
+    let q = chain_arena::Ptr { slot: q.try_into().ok()?, generation: q_generation };
+    match code {
+        1 => Some(Command::Connect(p, q)),
+        2 => Some(Command::BreakPrev(p)),
+        3 => Some(Command::BreakNext(p)),
+        4 => Some(Command::ExchangeNext(p, q)),
+        5 => Some(Command::Remove(p)),
+        _ => None,
+    }
 }
 
 /// Level Two is not linked.

@@ -159,3 +159,63 @@ fn side(
         None
     }
 }
+
+#[cfg(test)]
+mod tests {
+    use super::*;
+    use crate::picture::Picture;
+
+    /// The words that must stand in the sentence of each refusal from 2 on.
+    const KEY: [&str; 10] = [
+        "the current generation is",
+        "but the columns have only",
+        "the link count is",
+        "root",
+        "to 0, but its last slot must point at itself",
+        "which is past the stack length",
+        "is allocated",
+        "again, and none of its slots points at itself",
+        "is not on it",
+        ": its ",
+    ];
+
+    /// Calls `look` with every arena of two slots whose words are small.
+    fn every_small_arena(mut look: impl FnMut(&Columns)) {
+        let rows: Vec<[u32; 3]> = (0..32).map(|k| [k % 4, k / 4 % 4, k / 16 * 5]).collect();
+        for (one, two) in rows.iter().flat_map(|one| rows.iter().map(move |two| (one, two))) {
+            for k in 0..128 {
+                look(&Columns {
+                    prev: vec![one[0] as u16, two[0] as u16],
+                    next: vec![one[1] as u16, two[1] as u16],
+                    generation: vec![one[2], two[2]],
+                    payload: vec![10, 20],
+                    header: vec![k % 4, k / 4 % 4, k / 16 % 4, 1 + k / 64],
+                });
+            }
+        }
+    }
+
+    #[test]
+    fn every_small_arena_is_explained_by_the_rule_that_fails() {
+        let mut seen = [0; 12];
+        every_small_arena(|a| {
+            let Err(refusal) = a.lent().check() else { return seen[0] += 1 };
+            let number = refusal.number() as usize;
+            seen[number] += 1;
+            let why = explain(a, refusal);
+            assert!(why.sentence.contains(KEY[number - 2]), "{refusal} of {a:?}: {why:?}");
+            assert!(!why.sentence.ends_with(": "), "{refusal} of {a:?}: {why:?}");
+            assert!(why.slot.is_none_or(|slot| a.stack().contains(&slot)), "{refusal} of {a:?}: {why:?}");
+        });
+        assert!(seen.iter().enumerate().all(|(number, &count)| count > 0 || number == 1), "{seen:?}");
+    }
+
+    #[test]
+    fn every_slot_of_every_small_arena_is_in_one_row() {
+        every_small_arena(|a| {
+            let mut slots: Vec<u32> = Picture::of(a).rows.into_iter().flat_map(|row| row.slots).collect();
+            slots.sort_unstable();
+            assert!(slots.into_iter().eq(a.stack()), "{a:?}");
+        });
+    }
+}
