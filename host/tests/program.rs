@@ -155,11 +155,11 @@ fn changed(lines: &[(&str, &str)]) -> String {
     })
 }
 
-/// The slots that are drawn as broken.
+/// The slots that are drawn as broken: the first text of each such box.
 fn drawn_broken(picture: &str) -> Vec<&str> {
     let boxes =
-        picture.lines().filter(|line| line.starts_with("<g class=\"slot") && line.contains("broken\">"));
-    boxes.map(|line| line.split("</text>").next().and_then(|text| text.rsplit('>').next()).unwrap()).collect()
+        picture.split("<g class=\"slot").filter(|text| text.split('>').next().unwrap().contains("broken"));
+    boxes.map(|text| text.split("</text>").next().and_then(|text| text.rsplit('>').next()).unwrap()).collect()
 }
 
 #[test]
@@ -258,8 +258,8 @@ fn every_slot_of_the_stack_is_drawn_once() {
     assert_eq!(picture.matches("<g class=\"slot\">").count(), 7);
     assert_eq!(picture.matches("<g class=\"slot free\">").count(), 2);
     // 1 -> 5, 5 -> 3, 2 -> 4, 4 -> 2 and 7 -> 7; from the root to 8, 8 -> 6 and 6 -> 6.
-    assert_eq!(picture.matches("<path class=\"\"").count(), 5);
-    assert_eq!(picture.matches("<path class=\"grey\"").count(), 3);
+    assert_eq!(picture.matches("<path class=\"next\"").count(), 5);
+    assert_eq!(picture.matches("<path class=\"freelist\"").count(), 3);
     assert_eq!(picture.matches("<path class=\"wrong\"").count(), 0);
 }
 
