@@ -74,6 +74,14 @@ fn without_arguments_it_shows_arenas_of_its_own() {
     says(&[], "samples.out", 0);
 }
 
+#[cfg(not(feature = "level-three"))]
+#[test]
+fn a_compression_needs_level_three() {
+    let ran = checker(&["compress", "whole.txt"]);
+    let message = "compress needs Level Three: build with the feature level-three\n";
+    assert_eq!((ran.stdout.as_str(), ran.stderr.as_str(), ran.status), ("", message, 2));
+}
+
 #[test]
 fn wrong_use_is_told() {
     for arguments in [
