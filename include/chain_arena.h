@@ -18,6 +18,24 @@
  *   broken   a slot at which rule 11 fails if the number is 11, else 0
  * Every call first gives what the check gives, 1 to 11. A refused call has written nothing, and the further words of its
  * result are 0, but a step hands back its state as it was.
+ *
+ * The refusals:
+ *    1  the columns differ in length or hold over 65,535 slots, or the header is not four words
+ *    2  the current generation is below 2
+ *    3  the link count or the stack length is over the capacity
+ *    4  the link count is not the number of allocated slots
+ *    5  there is a freelist root although no slot is free, or none although one is
+ *    6  the freelist comes to pointer 0
+ *    7  the freelist points past the stack
+ *    8  the freelist comes to an allocated slot
+ *    9  the freelist goes round without a slot that points at itself
+ *   10  the freelist ends before it has come to every free slot
+ *   11  a link's prev or next is past the stack, free, or does not name it back
+ *   12  the pointer is stale
+ *   13  the link has a neighbour where none may be, or none where one must be
+ *   14  the slice for the answer is too short, or the where-from column has another length
+ *   15  a generation below 2 cannot be set
+ *   16  the command words are not a multiple of five, or the command's code is unknown
  */
 #ifndef CHAIN_ARENA_H
 #define CHAIN_ARENA_H

@@ -88,6 +88,7 @@ pub struct DrainResult {
 }
 
 // Level One
+#[cfg(feature = "level-one")]
 #[rustfmt::skip]
 unsafe extern "C" {
     /// Whether the lent arena is whole: 0, else 1 to 11. Every other call first makes this check.
@@ -139,7 +140,7 @@ unsafe extern "C" {
 }
 
 // Level Two
-#[cfg(level_two)]
+#[cfg(feature = "level-two")]
 #[rustfmt::skip]
 unsafe extern "C" {
     /// Joins the end p_prev to the start p_next. 12, 13: p_prev is stale, or has a next; then p_next is, or has a prev.
@@ -224,7 +225,7 @@ unsafe extern "C" {
 }
 
 // Level Three
-#[cfg(level_three)]
+#[cfg(feature = "level-three")]
 #[rustfmt::skip]
 unsafe extern "C" {
     /// Moves the links down in slot order; four words of the report for each: old slot and generation, new slot and

@@ -8,7 +8,7 @@ pub struct Level {
     pub exports: &'static [&'static str],
 }
 
-/// Every level. Level One is always linked, the others by the cargo feature of their name.
+/// Every level. The cargo feature that links it has its name, with `-` for `_`.
 pub const LEVELS: &[Level] = &[
     Level {
         name: "level_one",
@@ -38,7 +38,3 @@ pub const LEVELS: &[Level] = &[
     },
     Level { name: "level_three", exports: &["chain_arena_compress_with", "chain_arena_compress_canonical"] },
 ];
-
-/// The levels that are still being written, by name: one that does not have all its exports yet is left out with a warning.
-/// Of every other level a missing archive is an error.
-pub const BEING_WRITTEN: &[&str] = &[];

@@ -1,11 +1,11 @@
-//! The chain arena's proved calls, safe to use from Rust.
+//! The chain arena's proved calls, safe to use from Rust, without `std`.
 //!
 //! An arena is lent as five slices: prev, next, generation and payload by slot, and a header of four words. [`Arena`] reads
-//! it, [`ArenaMut`] edits and compresses it. Every call checks the arena first, answers on any words, and refuses by
-//! document 01's numbers; a refused call has written nothing.
+//! it (Level One), [`ArenaMut`] edits it (Level Two) and compresses it (Level Three). Every call checks the arena first,
+//! answers on any words, and refuses by document 01's numbers; a refused call has written nothing.
 //!
 //! ```
-//! use chain_arena::{Arena, Pointer};
+//! use chain_arena::{Arena, Header, Ptr};
 //!
 //! // The chain 1 -> 3 and the lone link 2.
 //! let arena = Arena {
@@ -13,16 +13,44 @@
 //!     next: &[3, 0, 0],
 //!     generation: &[5, 5, 5],
 //!     payload: &[10, 20, 30],
-//!     header: &[3, 3, 0, 5],
+//!     header: &Header { stack_length: 3, link_count: 3, root: 0, generation: 5 }.words(),
 //! };
-//! let p = Pointer { slot: 3, generation: 5 };
+//! let p = Ptr { slot: 3, generation: 5 };
+//! # #[cfg(feature = "level-one")]
 //! assert_eq!(arena.get_link(p)?.payload, 30);
-//! let slots: Vec<u16> = arena.walk(p)?.map(|p| p.slot).collect();
-//! assert_eq!(slots, [3, 1]);
+//! # #[cfg(feature = "level-one")]
+//! assert!(arena.chain(p)?.map(|p| p.slot).eq([3, 1]));
 //! # Ok::<(), chain_arena::Refusal>(())
 //! ```
+//!
+//! # Levels
+//!
+//! The features `level-one`, `level-two` and `level-three`, all on by default, each stand alone. A feature builds its
+//! level's archive with the Rattle toolchain and links it. The calls of a level whose feature is off are not there.
+//!
+//! # Buffers do not overlap
+//!
+//! A call that writes takes its slices as `&mut`, so that none of them overlaps another one, be it a column, a report or a
+//! list of answers; only [`ffi`], which is unsafe, takes raw pointers. A column that is lent twice does not compile:
+//!
+//! ```compile_fail,E0499
+//! # use chain_arena::ArenaMut;
+//! # let (mut generation, mut payload, mut header) = ([0; 3], [0; 3], [0, 0, 0, 2]);
+//! let mut column = [0; 3];
+//! let arena = ArenaMut {
+//!     prev: &mut column,
+//!     next: &mut column,
+//!     generation: &mut generation,
+//!     payload: &mut payload,
+//!     header: &mut header,
+//! };
+//! # let _ = arena.prev;
+//! ```
+#![no_std]
+#![warn(missing_docs)]
 
 /// Makes an exported call on an arena's lent slices, each of which crosses as a pointer and an element count.
+#[cfg(any(feature = "level-one", feature = "level-two", feature = "level-three"))]
 macro_rules! call {
     ($call:ident($arena:expr, $pointer:ident $(, $argument:expr)* $(,)?)) => {
         // Safety: each pointer and count are those of one slice, which is borrowed until the call has answered; the slices
@@ -46,19 +74,36 @@ macro_rules! call {
 }
 
 mod arena;
-mod arena_mut;
-mod command;
+#[expect(missing_docs, reason = "the words of a result are named as the calls name them")]
 pub mod ffi;
+#[cfg(feature = "level-one")]
+mod level_one;
+#[cfg(feature = "level-three")]
+mod level_three;
+#[cfg(feature = "level-two")]
+mod level_two;
+/// The levels that are sold, and the names that each exports.
 pub mod levels;
 mod link;
-mod picture;
 mod refusal;
+#[cfg(feature = "level-two")]
+mod run;
+#[cfg(feature = "level-one")]
 mod walk;
 
-pub use arena::Arena;
-pub use arena_mut::ArenaMut;
-pub use command::Command;
-pub use link::{Drained, DrainedLink, Link, LinkNoGen, Moved, Pointer, Removed};
-pub use picture::Picture;
+pub use arena::{Arena, ArenaMut, Header};
+#[cfg(feature = "level-three")]
+pub use level_three::{CompressedCanonical, CompressedWith, Moved};
+#[cfg(feature = "level-two")]
+pub use level_two::{Drained, DrainedLink, Removed};
+pub use link::{Link, LinkNoGen, Ptr, Slot};
 pub use refusal::{Done, Refusal};
-pub use walk::{Steps, Walk};
+#[cfg(feature = "level-two")]
+pub use run::{Answer, Command, Full, Run};
+#[cfg(feature = "level-one")]
+pub use walk::{Chain, Steps, Walk};
+
+/// The README's examples, which are tested too.
+#[cfg(all(doctest, feature = "level-one", feature = "level-two", feature = "level-three"))]
+#[doc = include_str!("../../README.md")]
+struct Readme;

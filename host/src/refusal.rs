@@ -1,7 +1,10 @@
 //! What a call answers first: that it was done, or what it refuses, by document 01's number and in words.
 
-use std::error::Error;
-use std::fmt;
+use core::error::Error;
+use core::fmt;
+
+use crate::Slot;
+use crate::link::answered_slot;
 
 /// What is told of a call that was done.
 #[derive(Clone, Copy, Debug, PartialEq, Eq)]
@@ -11,7 +14,7 @@ pub struct Done {
 }
 
 impl Done {
-    /// What a call's number and broken slot stand for.
+    /// What the first two words of a call's result stand for.
     pub fn of(number: u32, broken: u32) -> Result<Self, Refusal> {
         match number {
             0 => Ok(Self { overflowed: false }),
@@ -27,6 +30,27 @@ impl Done {
 }
 
 /// A refusal. No refused call has written anything.
+///
+/// ```
+/// # #[cfg(feature = "level-one")] {
+/// use chain_arena::Arena;
+///
+/// // The next of slot 1 is 2, but slot 2 has no prev.
+/// let broken = Arena {
+///     prev: &[0, 0],
+///     next: &[2, 0],
+///     generation: &[5, 5],
+///     payload: &[10, 20],
+///     header: &[2, 2, 0, 5],
+/// };
+/// let refusal = broken.check().unwrap_err();
+/// assert_eq!((refusal.number(), refusal.slot()), (11, Some(1)));
+/// assert_eq!(
+///     refusal.to_string(),
+///     "refused with 11 at slot 1: a link's prev or next is past the stack, free, or does not name it back",
+/// );
+/// # }
+/// ```
 #[derive(Clone, Copy, Debug, PartialEq, Eq)]
 pub struct Refusal {
     number: u32,
@@ -40,12 +64,12 @@ impl Refusal {
     }
 
     /// The slot that 11 names: a link whose neighbours do not agree with it.
-    pub fn broken(self) -> Option<u32> {
-        (self.number == 11).then_some(self.broken)
+    pub fn slot(self) -> Option<Slot> {
+        answered_slot(self.broken).filter(|_| self.number == 11)
     }
 
-    /// What the number means.
-    fn words(self) -> &'static str {
+    /// The rule of that number.
+    pub fn words(self) -> &'static str {
         match self.number {
             1 => "the columns differ in length or hold over 65,535 slots, or the header is not four words",
             2 => "the current generation is below 2",
@@ -71,7 +95,7 @@ impl Refusal {
 impl fmt::Display for Refusal {
     fn fmt(&self, f: &mut fmt::Formatter<'_>) -> fmt::Result {
         write!(f, "refused with {}", self.number)?;
-        if let Some(slot) = self.broken() {
+        if let Some(slot) = self.slot() {
             write!(f, " at slot {slot}")?;
         }
         write!(f, ": {}", self.words())

@@ -1,8 +1,7 @@
-//! The safe wrapper: answers, refusals in words, the walk, edits and compressions.
+//! The safe wrapper: answers, refusals in words, the walk, edits and compressions. It looks at arenas through Level One.
+#![cfg(feature = "level-one")]
 
-#[cfg(level_three)]
-use chain_arena::Moved;
-use chain_arena::{Arena, ArenaMut, Done, Link, LinkNoGen, Pointer, Refusal, Walk};
+use chain_arena::{Arena, ArenaMut, Done, Link, LinkNoGen, Ptr, Refusal, Slot, Walk};
 
 /// An arena of owned columns.
 #[derive(Clone, Debug, PartialEq, Eq)]
@@ -39,12 +38,12 @@ impl Columns {
 }
 
 /// The pointer to a slot at generation 5.
-fn p(slot: u16) -> Pointer {
-    Pointer { slot, generation: 5 }
+fn p(slot: u16) -> Ptr {
+    Ptr { slot, generation: 5 }
 }
 
 /// A pointer that names no link of the sample.
-const STALE: Pointer = Pointer { slot: 1, generation: 4 };
+const STALE: Ptr = Ptr { slot: 1, generation: 4 };
 
 /// 1 -> 5, the closed 2 -> 4 -> (2), and the free slot 3.
 fn sample() -> Columns {
@@ -64,22 +63,20 @@ fn refusal(change: impl FnOnce(&mut Columns)) -> Refusal {
     columns.lent().check().unwrap_err()
 }
 
-#[test]
-fn a_whole_arena_passes_and_is_drawn() {
-    let mut columns = sample();
-    assert_eq!(columns.lent().check(), Ok(()));
-    let drawn = "  open    1 -> 5\n  closed  2 -> 4 -> (2)\n  free    3\n";
-    assert_eq!(columns.lent().picture().unwrap().to_string(), drawn);
-    assert_eq!(format!("{:?}", columns.lent()), drawn);
-    assert_eq!(format!("{:?}", columns.lent_mut()), drawn);
+/// The slots of a walk from a slot, whatever its generation is.
+fn walked(arena: Arena<'_>, slot: Slot) -> Vec<Slot> {
+    let p = Ptr { slot, generation: arena.generation[usize::from(slot) - 1] };
+    arena.walk(p).unwrap().map(|p| p.slot).collect()
 }
 
 #[test]
-fn an_empty_arena_passes() {
-    let columns =
-        Columns { prev: vec![], next: vec![], generation: vec![], payload: vec![], header: vec![0, 0, 0, 2] };
+fn a_whole_arena_passes() {
+    let mut columns = sample();
     assert_eq!(columns.lent().check(), Ok(()));
-    assert_eq!(columns.lent().picture().unwrap().to_string(), "");
+    assert_eq!(columns.lent_mut().as_arena().check(), Ok(()));
+    let empty =
+        Columns { prev: vec![], next: vec![], generation: vec![], payload: vec![], header: vec![0, 0, 0, 2] };
+    assert_eq!(empty.lent().check(), Ok(()));
 }
 
 #[test]
@@ -105,7 +102,7 @@ fn each_rule_of_the_check_is_named() {
     assert_eq!(round.number(), 9);
     assert_eq!(refusal(two_free).number(), 10);
     let broken = refusal(|a| a.next[0] = 0);
-    assert_eq!((broken.number(), broken.broken()), (11, Some(5)));
+    assert_eq!((broken.number(), broken.slot()), (11, Some(5)));
 }
 
 #[test]
@@ -148,9 +145,12 @@ fn a_walk_gives_the_whole_chain_and_then_none() {
     let arena = columns.lent();
     for (from, slots) in [(1, [1, 5]), (5, [5, 1]), (2, [2, 4]), (4, [4, 2])] {
         let mut steps = arena.walk(p(from)).unwrap();
-        assert_eq!(steps.by_ref().map(|p| p.slot).collect::<Vec<_>>(), slots);
+        assert!(steps.by_ref().eq(slots.map(p)));
         assert_eq!((steps.next(), steps.next()), (None, None));
-        assert_eq!(arena.chain(p(from)).unwrap(), slots.map(p));
+        let mut chain = arena.chain(p(from)).unwrap();
+        assert!(chain.by_ref().eq(slots.map(p)));
+        assert_eq!((chain.next(), chain.next()), (None, None));
+        assert_eq!(walked(arena, from), slots);
     }
 }
 
@@ -170,9 +170,9 @@ fn the_state_of_a_walk_can_be_kept_while_the_arena_changes() {
     assert_eq!(walk.step(&columns.lent()), Ok(None));
 }
 
-#[cfg(level_two)]
+#[cfg(feature = "level-two")]
 mod level_two {
-    use chain_arena::{Command, DrainedLink, Removed};
+    use chain_arena::{Answer, Command, DrainedLink, Full, Removed, Run};
 
     use super::*;
 
@@ -183,9 +183,11 @@ mod level_two {
         assert_eq!(arena.connect(p(1), p(2)).unwrap_err().number(), 13);
         assert_eq!(arena.break_next(p(2)), Ok(()));
         assert_eq!(arena.connect(p(5), p(4)), Ok(()));
-        assert_eq!(format!("{arena:?}"), "  open    1 -> 5 -> 4 -> 2\n  free    3\n");
+        assert_eq!(walked(arena.as_arena(), 1), [1, 5, 4, 2]);
         assert_eq!(arena.exchange_next(p(1), p(4)), Ok(()));
-        assert_eq!(arena.as_arena().picture().unwrap().closed, [[4, 5]]);
+        assert_eq!(walked(arena.as_arena(), 1), [1, 2]);
+        assert_eq!(arena.as_arena().are_neighbors(p(4), p(5)), Ok(true));
+        assert_eq!(arena.as_arena().are_neighbors(p(5), p(4)), Ok(true));
         assert_eq!(arena.break_prev(p(2)), Ok(()));
         assert_eq!(arena.break_prev(p(2)).unwrap_err().number(), 13);
         assert_eq!(arena.exchange_next(STALE, p(4)).unwrap_err().number(), 12);
@@ -204,8 +206,8 @@ mod level_two {
         let drained = arena.drain(p(5), &mut report).unwrap();
         let link = |prev, next, payload| LinkNoGen { prev, next, payload };
         let expected = [
-            DrainedLink { pointer: p(5), link: link(Some(1), None, 50) },
-            DrainedLink { pointer: p(1), link: link(None, None, 10) },
+            DrainedLink { ptr: p(5), link: link(Some(1), None, 50) },
+            DrainedLink { ptr: p(1), link: link(None, None, 10) },
         ];
         assert_eq!(drained.links().collect::<Vec<_>>(), expected);
         assert_eq!(drained.overflowed, Some(1));
@@ -230,44 +232,81 @@ mod level_two {
     }
 
     #[test]
-    fn a_run_of_commands() {
+    fn a_run_answers_each_command() {
+        let mut columns = sample();
+        let commands = [
+            Command::BreakNext(p(1)),
+            Command::Connect(p(5), p(1)),
+            Command::Connect(p(5), p(1)),
+            Command::BreakPrev(STALE),
+            Command::ExchangeNext(p(5), p(2)),
+            Command::Remove(p(4)),
+        ];
+        let (mut words, mut answers) = ([[9; Command::WORDS]; 7], [9; 6]);
+        let mut run = Run::new(&mut words, &mut answers);
+        run.break_next(p(1)).unwrap().connect(p(5), p(1)).unwrap().connect(p(5), p(1)).unwrap();
+        run.break_prev(STALE).unwrap().exchange_next(p(5), p(2)).unwrap().remove(p(4)).unwrap();
+        assert_eq!((run.push(commands[0]).unwrap_err(), run.len()), (Full, 6));
+        let found: Vec<Answer> = columns.lent_mut().run(&mut run).unwrap().collect();
+        let numbers = [0, 0, 13, 12, 0, 0];
+        let expected = commands
+            .iter()
+            .zip(numbers)
+            .map(|(&command, number)| Answer { command, result: Done::answer(number) });
+        assert!(found.into_iter().eq(expected));
+        assert_eq!(walked(columns.lent(), 5), [5, 2, 1]);
+        assert_eq!(columns.header, [5, 3, 4, 6]);
+    }
+
+    #[test]
+    fn a_run_is_cleared_for_the_next() {
+        let mut columns = sample();
+        let (mut words, mut answers) = ([[9; Command::WORDS]; 1], [9; 2]);
+        let mut run = Run::new(&mut words, &mut answers);
+        assert!(run.is_empty());
+        assert_eq!(columns.lent_mut().run(&mut run).unwrap().len(), 0);
+        run.remove(p(5)).unwrap();
+        assert_eq!(run.remove(p(1)).unwrap_err(), Full);
+        run.clear();
+        run.remove(p(1)).unwrap();
+        assert_eq!(columns.lent_mut().run(&mut run).unwrap().len(), 1);
+        assert_eq!(columns.lent().get_link(p(1)).unwrap_err().number(), 12);
+        assert_eq!(walked(columns.lent(), 5), [5]);
+    }
+
+    #[test]
+    fn a_run_of_words() {
         let mut columns = sample();
         let mut arena = columns.lent_mut();
-        let commands = [
-            Command::BreakNext(p(1)).words(),
-            Command::Connect(p(5), p(1)).words(),
-            Command::Connect(p(5), p(1)).words(),
-            Command::BreakPrev(STALE).words(),
-            Command::ExchangeNext(p(5), p(2)).words(),
-            Command::Remove(p(4)).words(),
-            [77; 5],
-        ];
-        let mut answers = [9; 8];
-        assert_eq!(arena.run(commands.as_flattened(), &mut answers), Ok(()));
-        assert_eq!(answers, [0, 0, 13, 12, 0, 0, 16, 9]);
-        assert_eq!(Done::answer(answers[2]).unwrap_err().number(), 13);
-        assert_eq!(format!("{arena:?}"), "  open    5 -> 2 -> 1\n  free    4 -> 3\n");
-        assert_eq!(arena.run(&[1; 6], &mut answers).unwrap_err().number(), 16);
-        assert_eq!(arena.run(&[1; 5], &mut []).unwrap_err().number(), 14);
+        let mut answers = [9; 3];
+        let commands = [Command::Remove(p(4)).words(), [77; 5]];
+        assert_eq!(arena.run_words(commands.as_flattened(), &mut answers), Ok(()));
+        assert_eq!(answers, [0, 16, 9]);
+        assert_eq!(Done::answer(answers[1]).unwrap_err().number(), 16);
+        assert_eq!(arena.run_words(&[1; 6], &mut answers).unwrap_err().number(), 16);
+        assert_eq!(arena.run_words(&[1; 5], &mut []).unwrap_err().number(), 14);
     }
 }
 
-#[cfg(level_three)]
+#[cfg(feature = "level-three")]
 mod level_three {
+    use chain_arena::{CompressedCanonical, Moved};
+
     use super::*;
 
     #[test]
     fn links_move_down_in_order() {
         let mut columns = sample();
-        let mut report = [9; 17];
+        let mut report = [9; 19];
         let mut arena = columns.lent_mut();
         assert_eq!(arena.compress_with(false, &mut report[..15]).unwrap_err().number(), 14);
-        assert_eq!(arena.compress_with(false, &mut report), Ok(Done { overflowed: false }));
-        let to = |slot| Pointer { slot, generation: 6 };
-        let moved: Vec<Moved> = Moved::each(&report).collect();
-        assert_eq!(moved, [(1, 1), (2, 2), (4, 3), (5, 4)].map(|(a, b)| Moved { from: p(a), to: to(b) }));
-        assert_eq!(report[16], 9);
-        assert_eq!(format!("{arena:?}"), "  open    1 -> 4\n  closed  2 -> 3 -> (2)\n");
+        let compressed = arena.compress_with(false, &mut report).unwrap();
+        let to = |slot| Ptr { slot, generation: 6 };
+        let moved = [(1, 1), (2, 2), (4, 3), (5, 4)].map(|(a, b)| Moved { from: p(a), to: to(b) });
+        assert!(compressed.links().eq(moved));
+        assert!(!compressed.overflowed);
+        assert_eq!(report[16..], [9, 9, 9]);
+        assert_eq!((walked(columns.lent(), 1), walked(columns.lent(), 2)), (vec![1, 4], vec![2, 3]));
     }
 
     #[test]
@@ -277,43 +316,43 @@ mod level_three {
         let mut from = [9; 5];
         let mut arena = columns.lent_mut();
         assert_eq!(arena.compress_canonical(false, &mut from[..4]).unwrap_err().number(), 14);
-        assert_eq!(arena.compress_canonical(false, &mut from), Ok(Done { overflowed: true }));
-        assert_eq!(from, [1, 5, 4, 2, 0]);
-        assert_eq!(format!("{arena:?}"), "  open    1 -> 2\n  closed  3 -> 4 -> (3)\n");
-        assert_eq!(arena.compress_canonical(true, &mut from), Ok(Done { overflowed: false }));
+        let first = CompressedCanonical { where_from: &[1, 5, 4, 2], overflowed: true };
+        assert_eq!(arena.compress_canonical(false, &mut from), Ok(first));
+        let again = CompressedCanonical { where_from: &[1, 2, 3, 4], overflowed: false };
+        assert_eq!(arena.compress_canonical(true, &mut from), Ok(again));
         assert_eq!(from, [1, 2, 3, 4, 0]);
-        assert_eq!(*arena.header, [4, 4, 0, 2]);
+        assert_eq!((walked(columns.lent(), 1), walked(columns.lent(), 3)), (vec![1, 2], vec![3, 4]));
+        assert_eq!(columns.header, [4, 4, 0, 2]);
     }
 }
 
 /// Makes every call that is linked, with pointers, words and slices of any kind.
 fn make_every_call(columns: &mut Columns, noise: &mut dyn FnMut() -> u32) {
-    let mut pointer = || Pointer { slot: (noise() % 7) as u16, generation: 4 + noise() % 4 };
+    let mut pointer = || Ptr { slot: (noise() % 7) as u16, generation: 4 + noise() % 4 };
     let (p, q) = (pointer(), pointer());
     let mut walk =
         Walk { start: noise() % 7, position: noise() % 7, direction: noise() % 2, left: noise() % 7 };
     let arena = columns.lent();
-    let _ = format!("{arena:?} {:?} {:?}", arena.get_link(p), arena.get_link_no_gen(p));
-    let _ = (arena.are_neighbors(p, q), walk.step(&arena), arena.chain(p));
-    let _ = arena.walk(p).map(Iterator::count);
-    #[cfg(level_two)]
+    let _ = (arena.get_link(p), arena.get_link_no_gen(p), arena.are_neighbors(p, q), walk.step(&arena));
+    let _ = (arena.walk(p).map(Iterator::count), arena.chain(p).map(Iterator::count));
+    #[cfg(feature = "level-two")]
     {
         let mut slice: Vec<u32> = (0..noise() % 40).map(|_| noise() % 6).collect();
         let mut answers = vec![0; noise() as usize % 9];
         let mut arena = columns.lent_mut();
         let _ = (arena.connect(p, q), arena.exchange_next(p, q), arena.break_prev(p), arena.break_next(q));
         let _ = (arena.set_generation(noise() % 4), arena.inc_generation());
-        let _ = (arena.run(&slice, &mut answers), arena.remove(p), arena.canonicalize_freelist());
+        let _ = (arena.run_words(&slice, &mut answers), arena.remove(p), arena.canonicalize_freelist());
         let _ = arena.drain(q, &mut slice).map(|drained| drained.links().count());
     }
-    #[cfg(level_three)]
+    #[cfg(feature = "level-three")]
     {
         let mut report = vec![0; noise() as usize % 30];
         let mut from = vec![0; noise() as usize % 7];
         let reset = noise().is_multiple_of(2);
         let mut arena = columns.lent_mut();
-        let _ = (arena.compress_with(reset, &mut report), arena.compress_canonical(reset, &mut from));
-        let _ = Moved::each(&report).count();
+        let _ = arena.compress_with(reset, &mut report).map(|compressed| compressed.links().count());
+        let _ = arena.compress_canonical(reset, &mut from);
     }
 }
 

@@ -1,16 +1,16 @@
 //! The same calls through the safe wrapper, its answers turned back into words.
 
-use chain_arena::{Link, LinkNoGen, Pointer, Refusal};
+use chain_arena::{Link, LinkNoGen, Refusal};
 
 use crate::{Arena, Call, Ptr, Reply, Walk};
 
 /// The wrapper's pointer.
-fn pointer(p: Ptr) -> Pointer {
-    Pointer { slot: p.slot, generation: p.generation }
+fn pointer(p: Ptr) -> chain_arena::Ptr {
+    chain_arena::Ptr { slot: p.slot, generation: p.generation }
 }
 
 /// The two words of a pointer, 0 and 0 for none.
-fn pointer_words(p: Option<Pointer>) -> [u32; 2] {
+fn pointer_words(p: Option<chain_arena::Ptr>) -> [u32; 2] {
     p.map_or([0, 0], |p| [p.slot.into(), p.generation])
 }
 
@@ -30,7 +30,9 @@ fn no_gen_words(link: LinkNoGen) -> Vec<u32> {
 fn reply(answer: Result<(u32, Vec<u32>), Refusal>) -> Reply {
     match answer {
         Ok((number, words)) => Reply::new(number, &words),
-        Err(refusal) => Reply { broken: refusal.broken().unwrap_or(0), ..Reply::number(refusal.number()) },
+        Err(refusal) => {
+            Reply { broken: refusal.slot().map_or(0, u32::from), ..Reply::number(refusal.number()) }
+        }
     }
 }
 
@@ -97,8 +99,8 @@ fn lent_mut(a: &mut Arena) -> chain_arena::ArenaMut<'_> {
 
 /// The number of a call that was done.
 #[cfg(any(level_two, level_three))]
-fn number(done: chain_arena::Done) -> (u32, Vec<u32>) {
-    (if done.overflowed { 100 } else { 0 }, vec![])
+fn number(overflowed: bool) -> u32 {
+    if overflowed { 100 } else { 0 }
 }
 
 /// The calls of Level Two.
@@ -112,25 +114,62 @@ fn level_two(a: &mut Arena, call: &mut Call) -> Option<Reply> {
         Call::BreakNext(p) => plain(arena.break_next(pointer(*p))),
         Call::ExchangeNext(p, q) => plain(arena.exchange_next(pointer(*p), pointer(*q))),
         Call::Remove(p) => reply(
-            arena
-                .remove(pointer(*p))
-                .map(|removed| (if removed.overflowed { 100 } else { 0 }, no_gen_words(removed.link))),
+            arena.remove(pointer(*p)).map(|removed| (number(removed.overflowed), no_gen_words(removed.link))),
         ),
         Call::Drain(p, report) => reply(arena.drain(pointer(*p), report).map(|drained| {
             assert_eq!(drained.links().count(), drained.report.len());
             for (item, words) in drained.links().zip(drained.report) {
-                let [slot, generation] = pointer_words(Some(item.pointer));
+                let [slot, generation] = pointer_words(Some(item.ptr));
                 let link = no_gen_words(item.link);
                 assert_eq!(*words, [slot, generation, link[0], link[1], link[2]]);
             }
             (0, vec![drained.report.len() as u32, drained.overflowed.unwrap_or(0)])
         })),
         Call::SetGeneration(to) => plain(arena.set_generation(*to)),
-        Call::IncGeneration => reply(arena.inc_generation().map(number)),
+        Call::IncGeneration => reply(arena.inc_generation().map(|done| (number(done.overflowed), vec![]))),
         Call::CanonicalizeFreelist => plain(arena.canonicalize_freelist()),
-        Call::Run(commands, answers) => plain(arena.run(commands, answers)),
+        Call::Run(commands, answers) => plain(run(&mut arena, commands, answers)),
         _ => return None,
     })
+}
+
+/// A run that is built where its words are commands and have room for their answers, else one of words.
+#[cfg(level_two)]
+fn run(arena: &mut chain_arena::ArenaMut<'_>, words: &[u32], answers: &mut [u32]) -> Result<(), Refusal> {
+    let (commands, rest) = words.as_chunks();
+    let Some(typed) = commands.iter().map(command).collect::<Option<Vec<_>>>() else {
+        return arena.run_words(words, answers);
+    };
+    if !rest.is_empty() || answers.len() < typed.len() {
+        return arena.run_words(words, answers);
+    }
+    let mut room = vec![[0; chain_arena::Command::WORDS]; typed.len()];
+    let mut run = chain_arena::Run::new(&mut room, answers);
+    for &command in &typed {
+        run.push(command).expect("there is room for every command");
+    }
+    let found: Vec<chain_arena::Answer> = arena.run(&mut run)?.collect();
+    assert!(found.iter().map(|answer| answer.command).eq(typed));
+    for (answer, &word) in found.iter().zip(&*answers) {
+        assert_eq!(answer.result.map_or_else(Refusal::number, |done| number(done.overflowed)), word);
+    }
+    Ok(())
+}
+
+/// The command of five words, none if they are no command. Words that a command ignores are not kept.
+#[cfg(level_two)]
+fn command(&[code, p, p_generation, q, q_generation]: &[u32; 5]) -> Option<chain_arena::Command> {
+    use chain_arena::Command;
+    let p = chain_arena::Ptr { slot: p.try_into().ok()?, generation: p_generation };
+    let q = chain_arena::Ptr { slot: q.try_into().ok()?, generation: q_generation };
+    match code {
+        1 => Some(Command::Connect(p, q)),
+        2 => Some(Command::BreakPrev(p)),
+        3 => Some(Command::BreakNext(p)),
+        4 => Some(Command::ExchangeNext(p, q)),
+        5 => Some(Command::Remove(p)),
+        _ => None,
+    }
 }
 
 /// Level Two is not linked.
@@ -144,10 +183,20 @@ fn level_two(_: &mut Arena, _: &mut Call) -> Option<Reply> {
 fn level_three(a: &mut Arena, call: &mut Call) -> Option<Reply> {
     let mut arena = lent_mut(a);
     Some(match call {
-        Call::CompressWith(reset, report) => reply(arena.compress_with(*reset != 0, report).map(number)),
-        Call::CompressCanonical(reset, from) => {
-            reply(arena.compress_canonical(*reset != 0, from).map(number))
+        Call::CompressWith(reset, report) => {
+            reply(arena.compress_with(*reset != 0, report).map(|compressed| {
+                for (moved, words) in compressed.links().zip(compressed.report) {
+                    let words_of = [moved.from, moved.to].map(|p| pointer_words(Some(p)));
+                    assert_eq!(words_of.as_flattened(), words);
+                }
+                (number(compressed.overflowed), vec![])
+            }))
         }
+        Call::CompressCanonical(reset, from) => reply(
+            arena
+                .compress_canonical(*reset != 0, from)
+                .map(|compressed| (number(compressed.overflowed), vec![])),
+        ),
         _ => return None,
     })
 }

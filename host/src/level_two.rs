@@ -1,0 +1,173 @@
+//! Level Two: edits of a lent arena.
+
+use crate::ffi::PlainResult;
+use crate::link::answered_slot;
+use crate::{Answer, ArenaMut, Done, LinkNoGen, Ptr, Refusal, Run, Slot};
+
+/// The calls of Level Two.
+///
+/// ```
+/// use chain_arena::{ArenaMut, Ptr};
+///
+/// // The lone links 1, 2 and 3.
+/// let (mut prev, mut next) = ([0; 3], [0; 3]);
+/// let (mut generation, mut payload, mut header) = ([5; 3], [10, 20, 30], [3, 3, 0, 5]);
+/// let mut arena = ArenaMut {
+///     prev: &mut prev,
+///     next: &mut next,
+///     generation: &mut generation,
+///     payload: &mut payload,
+///     header: &mut header,
+/// };
+/// let p = |slot| Ptr { slot, generation: 5 };
+/// arena.connect(p(3), p(1))?;
+/// arena.connect(p(1), p(2))?;
+/// assert_eq!(arena.connect(p(1), p(2)).unwrap_err().number(), 13);
+/// assert_eq!(arena.remove(p(1))?.link.payload, 10);
+///
+/// let mut report = [0; 10];
+/// let drained = arena.drain(p(2), &mut report)?;
+/// assert!(drained.links().map(|link| link.ptr.slot).eq([2, 3]));
+/// # Ok::<(), chain_arena::Refusal>(())
+/// ```
+impl ArenaMut<'_> {
+    /// Joins the end `p_prev` to the start `p_next`; a lone link joined to itself is a closed chain.
+    pub fn connect(&mut self, p_prev: Ptr, p_next: Ptr) -> Result<(), Refusal> {
+        plain(call!(chain_arena_connect(
+            self,
+            as_mut_ptr,
+            p_prev.slot,
+            p_prev.generation,
+            p_next.slot,
+            p_next.generation
+        )))
+    }
+
+    /// Parts the link at `p` from its prev.
+    pub fn break_prev(&mut self, p: Ptr) -> Result<(), Refusal> {
+        plain(call!(chain_arena_break_prev(self, as_mut_ptr, p.slot, p.generation)))
+    }
+
+    /// Parts the link at `p` from its next.
+    pub fn break_next(&mut self, p: Ptr) -> Result<(), Refusal> {
+        plain(call!(chain_arena_break_next(self, as_mut_ptr, p.slot, p.generation)))
+    }
+
+    /// Exchanges what comes after the links at `p0` and `p1`.
+    pub fn exchange_next(&mut self, p0: Ptr, p1: Ptr) -> Result<(), Refusal> {
+        plain(call!(chain_arena_exchange_next(
+            self,
+            as_mut_ptr,
+            p0.slot,
+            p0.generation,
+            p1.slot,
+            p1.generation
+        )))
+    }
+
+    /// Removes the link at `p` and joins its neighbours.
+    pub fn remove(&mut self, p: Ptr) -> Result<Removed, Refusal> {
+        let answer = call!(chain_arena_remove(self, as_mut_ptr, p.slot, p.generation));
+        let done = Done::of(answer.number, answer.broken)?;
+        Ok(Removed { link: answer.into(), overflowed: done.overflowed })
+    }
+
+    /// Removes the whole chain of `p` in the walk's order. The report needs five words for each link of the chain.
+    pub fn drain<'r>(&mut self, p: Ptr, report: &'r mut [u32]) -> Result<Drained<'r>, Refusal> {
+        let answer = call!(chain_arena_drain(
+            self,
+            as_mut_ptr,
+            p.slot,
+            p.generation,
+            report.as_mut_ptr(),
+            report.len()
+        ));
+        Done::of(answer.number, answer.broken)?;
+        let items: &[[u32; 5]] = report.as_chunks().0;
+        let report = items.get(..answer.items as usize).unwrap_or(items);
+        Ok(Drained { report, overflowed: (answer.overflowed != 0).then_some(answer.overflowed) })
+    }
+
+    /// Sets the current generation, from 2 on.
+    pub fn set_generation(&mut self, generation: u32) -> Result<(), Refusal> {
+        plain(call!(chain_arena_set_generation(self, as_mut_ptr, generation)))
+    }
+
+    /// Raises the current generation.
+    pub fn inc_generation(&mut self) -> Result<Done, Refusal> {
+        let answer = call!(chain_arena_inc_generation(self, as_mut_ptr));
+        Done::of(answer.number, answer.broken)
+    }
+
+    /// Pops free end slots, then lists the rest in rising order.
+    pub fn canonicalize_freelist(&mut self) -> Result<(), Refusal> {
+        plain(call!(chain_arena_canonicalize_freelist(self, as_mut_ptr)))
+    }
+
+    /// Applies the commands of a run under one check, and answers each command with what became of it. A refused command
+    /// changes nothing and the run goes on. The run keeps its commands.
+    pub fn run<'r>(
+        &mut self,
+        run: &'r mut Run<'_>,
+    ) -> Result<impl ExactSizeIterator<Item = Answer> + use<'r>, Refusal> {
+        let (commands, answers) = run.lent();
+        self.run_words(commands.as_flattened(), answers)?;
+        let answers: &'r [u32] = answers;
+        Ok(commands.iter().zip(answers).map(Answer::of))
+    }
+
+    /// Applies commands that are words already: five for each, as [`Command::words`](crate::Command::words) makes them. Each
+    /// gets one answer word, which [`Done::answer`] reads.
+    pub fn run_words(&mut self, commands: &[u32], answers: &mut [u32]) -> Result<(), Refusal> {
+        plain(call!(chain_arena_run(
+            self,
+            as_mut_ptr,
+            commands.as_ptr(),
+            commands.len(),
+            answers.as_mut_ptr(),
+            answers.len()
+        )))
+    }
+}
+
+/// What a call answers that can only be done or refused.
+fn plain(answer: PlainResult) -> Result<(), Refusal> {
+    Done::of(answer.number, answer.broken).map(|_| ())
+}
+
+/// A link that was removed.
+#[derive(Clone, Copy, Debug, PartialEq, Eq)]
+pub struct Removed {
+    /// The link as it was
+    pub link: LinkNoGen,
+    /// Whether the current generation overflowed
+    pub overflowed: bool,
+}
+
+/// A chain that was drained.
+#[derive(Clone, Copy, Debug, PartialEq, Eq)]
+pub struct Drained<'r> {
+    /// Five words for each link, in the walk's order: slot, generation, prev, next, payload
+    pub report: &'r [[u32; 5]],
+    /// The link, from 1, at whose removal the current generation overflowed
+    pub overflowed: Option<u32>,
+}
+
+/// A link of a chain that was drained.
+#[derive(Clone, Copy, Debug, PartialEq, Eq)]
+pub struct DrainedLink {
+    /// The pointer that named it
+    pub ptr: Ptr,
+    /// The link as it was at its own removal
+    pub link: LinkNoGen,
+}
+
+impl<'r> Drained<'r> {
+    /// The links, in the walk's order.
+    pub fn links(&self) -> impl ExactSizeIterator<Item = DrainedLink> + use<'r> {
+        self.report.iter().map(|&[slot, generation, prev, next, payload]| DrainedLink {
+            ptr: Ptr { slot: slot as Slot, generation },
+            link: LinkNoGen { prev: answered_slot(prev), next: answered_slot(next), payload },
+        })
+    }
+}

@@ -1,0 +1,176 @@
+//! A run of edits: its commands, and what became of each.
+
+use core::error::Error;
+use core::fmt;
+
+use crate::{Done, Ptr, Refusal, Slot};
+
+/// One edit of a run.
+#[derive(Clone, Copy, Debug, PartialEq, Eq)]
+pub enum Command {
+    /// Joins the end to the start.
+    Connect(Ptr, Ptr),
+    /// Parts the link from its prev.
+    BreakPrev(Ptr),
+    /// Parts the link from its next.
+    BreakNext(Ptr),
+    /// Exchanges what comes after the two links.
+    ExchangeNext(Ptr, Ptr),
+    /// Removes the link.
+    Remove(Ptr),
+}
+
+impl Command {
+    /// How many words a command is.
+    pub const WORDS: usize = 5;
+
+    /// The words of the command: its code, then two slots each followed by its generation.
+    pub fn words(self) -> [u32; Self::WORDS] {
+        const NONE: Ptr = Ptr { slot: 0, generation: 0 };
+        let (code, p, q) = match self {
+            Self::Connect(p, q) => (1, p, q),
+            Self::BreakPrev(p) => (2, p, NONE),
+            Self::BreakNext(p) => (3, p, NONE),
+            Self::ExchangeNext(p, q) => (4, p, q),
+            Self::Remove(p) => (5, p, NONE),
+        };
+        [code, p.slot.into(), p.generation, q.slot.into(), q.generation]
+    }
+
+    /// The command whose words these are.
+    fn of([code, p, p_generation, q, q_generation]: [u32; Self::WORDS]) -> Self {
+        let p = Ptr { slot: p as Slot, generation: p_generation };
+        let q = Ptr { slot: q as Slot, generation: q_generation };
+        match code {
+            1 => Self::Connect(p, q),
+            2 => Self::BreakPrev(p),
+            3 => Self::BreakNext(p),
+            4 => Self::ExchangeNext(p, q),
+            _ => Self::Remove(p),
+        }
+    }
+}
+
+/// Builds the commands of a run in lent words, with a lent answer word for each. It can be neither of a wrong length nor
+/// hold an unknown code, so [`ArenaMut::run`](crate::ArenaMut::run) refuses it only if the arena is broken.
+///
+/// ```
+/// use chain_arena::{ArenaMut, Command, Ptr, Run};
+///
+/// // The lone links 1 and 2.
+/// let (mut prev, mut next) = ([0; 2], [0; 2]);
+/// let (mut generation, mut payload, mut header) = ([5; 2], [10, 20], [2, 2, 0, 5]);
+/// let mut arena = ArenaMut {
+///     prev: &mut prev,
+///     next: &mut next,
+///     generation: &mut generation,
+///     payload: &mut payload,
+///     header: &mut header,
+/// };
+/// let (p, q) = (Ptr { slot: 1, generation: 5 }, Ptr { slot: 2, generation: 5 });
+///
+/// // Room for three commands and their answers.
+/// let (mut words, mut answers) = ([[0; Command::WORDS]; 3], [0; 3]);
+/// let mut run = Run::new(&mut words, &mut answers);
+/// run.connect(p, q)?.connect(p, q)?.remove(p)?;
+/// assert!(run.remove(q).is_err(), "the room is used up");
+///
+/// let numbers = arena.run(&mut run)?.map(|answer| answer.result.map_or_else(|refusal| refusal.number(), |_| 0));
+/// assert!(numbers.eq([0, 13, 0]));
+/// # Ok::<(), Box<dyn core::error::Error>>(())
+/// ```
+#[derive(Debug)]
+pub struct Run<'a> {
+    commands: &'a mut [[u32; Command::WORDS]],
+    answers: &'a mut [u32],
+    len: usize,
+}
+
+impl<'a> Run<'a> {
+    /// A run of no commands, with room for as many as both slices have places.
+    pub fn new(commands: &'a mut [[u32; Command::WORDS]], answers: &'a mut [u32]) -> Self {
+        Self { commands, answers, len: 0 }
+    }
+
+    /// How many commands it has.
+    pub fn len(&self) -> usize {
+        self.len
+    }
+
+    /// Whether it has no command.
+    pub fn is_empty(&self) -> bool {
+        self.len == 0
+    }
+
+    /// Takes all commands out, for the next run in the same room.
+    pub fn clear(&mut self) {
+        self.len = 0;
+    }
+
+    /// Adds a command.
+    pub fn push(&mut self, command: Command) -> Result<&mut Self, Full> {
+        let room = self.answers.len().min(self.commands.len());
+        let words = self.commands[..room].get_mut(self.len).ok_or(Full)?;
+        *words = command.words();
+        self.len += 1;
+        Ok(self)
+    }
+
+    /// Adds [`Command::Connect`].
+    pub fn connect(&mut self, p_prev: Ptr, p_next: Ptr) -> Result<&mut Self, Full> {
+        self.push(Command::Connect(p_prev, p_next))
+    }
+
+    /// Adds [`Command::BreakPrev`].
+    pub fn break_prev(&mut self, p: Ptr) -> Result<&mut Self, Full> {
+        self.push(Command::BreakPrev(p))
+    }
+
+    /// Adds [`Command::BreakNext`].
+    pub fn break_next(&mut self, p: Ptr) -> Result<&mut Self, Full> {
+        self.push(Command::BreakNext(p))
+    }
+
+    /// Adds [`Command::ExchangeNext`].
+    pub fn exchange_next(&mut self, p0: Ptr, p1: Ptr) -> Result<&mut Self, Full> {
+        self.push(Command::ExchangeNext(p0, p1))
+    }
+
+    /// Adds [`Command::Remove`].
+    pub fn remove(&mut self, p: Ptr) -> Result<&mut Self, Full> {
+        self.push(Command::Remove(p))
+    }
+
+    /// The commands that it has, and the answer words for them.
+    pub(crate) fn lent(&mut self) -> (&[[u32; Command::WORDS]], &mut [u32]) {
+        (&self.commands[..self.len], &mut self.answers[..self.len])
+    }
+}
+
+/// What became of a command.
+#[derive(Clone, Copy, Debug, PartialEq, Eq)]
+pub struct Answer {
+    /// The command
+    pub command: Command,
+    /// Done, or refused with 12 or 13
+    pub result: Result<Done, Refusal>,
+}
+
+impl Answer {
+    /// The answer of a command's words and its answer word.
+    pub(crate) fn of((words, answer): (&[u32; Command::WORDS], &u32)) -> Self {
+        Self { command: Command::of(*words), result: Done::answer(*answer) }
+    }
+}
+
+/// There is no room for another command.
+#[derive(Clone, Copy, Debug, PartialEq, Eq)]
+pub struct Full;
+
+impl fmt::Display for Full {
+    fn fmt(&self, f: &mut fmt::Formatter<'_>) -> fmt::Result {
+        f.write_str("there is no room for another command of the run")
+    }
+}
+
+impl Error for Full {}
