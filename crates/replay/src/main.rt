@@ -22,10 +22,10 @@ use text::line_end;
 use text::read_words;
 
 // Room for all the stored cases.
-fn room() -> [u8; 262144]
-    ensures { λ r. ⌜ 262144 ≡ length r ⌝ }
+fn room() -> [u8; 393216]
+    ensures { λ r. ⌜ 393216 ≡ length r ⌝ }
 {
-    [0; 262144]
+    [0; 393216]
 }
 
 // Replays one line, or writes a question mark if it is no case.
