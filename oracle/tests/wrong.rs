@@ -3,10 +3,10 @@
 
 use std::collections::BTreeSet;
 
-use oracle::compare::{Mismatch, Outcome, agrees, model_outcome};
+use oracle::compare::{Answer, Mismatch, Outcome, Product, agrees, model_outcome};
 use oracle::header::{GENERATION, LINKS, ROOT, STACK};
 use oracle::random::{self, Random};
-use oracle::runner::Run;
+use oracle::runner::{Failure, Run};
 use oracle::sections::{Form, SECTIONS};
 use oracle::{Arena, Call, Ptr, Reply, Walk, calls, cases, demand3, model, shrink};
 
@@ -368,17 +368,26 @@ fn by_lowest(a: &Arena) -> Vec<usize> {
     order
 }
 
-/// The case on which so many jobs of the sections of these names find a program out, made small.
-fn found_out(sections: &[&str], most: usize, program: Wrong) -> Option<Box<Mismatch>> {
-    let product = |a: &Arena, call: &Call| {
+/// The failure of the first of so many jobs of the sections of these names that finds a program out.
+fn failure(sections: &[&str], most: usize, threads: usize, product: Product) -> Option<Failure> {
+    let run = Run { product, seed: 1, threads, most };
+    let mut named = SECTIONS.iter().filter(|section| sections.contains(&section.name));
+    named.find_map(|section| run.run(&(section.jobs)(Form::Short), |_| {}).1)
+}
+
+/// A wrong program as a side of the comparison.
+fn side(program: Wrong) -> impl Fn(&Arena, &Call) -> Option<Answer> {
+    move |a, call| {
         let mut outcome = model_outcome(a, call);
         program(a, call, &mut outcome);
         Some(Ok(outcome))
-    };
-    let run = Run { product: &product, seed: 1, threads: 1, most };
-    let named = SECTIONS.iter().filter(|section| sections.contains(&section.name));
-    let failure = named.into_iter().find_map(|section| run.run(&(section.jobs)(Form::Short), |_| {}).1)?;
-    Some(shrink::smallest(failure, &product))
+    }
+}
+
+/// The case on which so many jobs of the sections of these names find a program out, made small.
+fn found_out(sections: &[&str], most: usize, program: Wrong) -> Option<Box<Mismatch>> {
+    let product = side(program);
+    Some(shrink::smallest(failure(sections, most, 1, &product)?, &product))
 }
 
 /// The sections that go through every small case of a call; a refused step is found on damaged arenas alone.
@@ -438,6 +447,26 @@ the export parts from the model
   prev of slot 2: model 1, export 0
 ";
     assert_eq!(shown, expected);
+}
+
+#[test]
+fn the_first_failure_is_the_same_on_several_threads() {
+    for (call, what, program) in WRONG.iter().filter(|(call, ..)| sections_of(call) == ["edits"]) {
+        let found = |threads| {
+            let failure = failure(&["edits"], 2_500, threads, &side(*program));
+            failure.unwrap_or_else(|| panic!("{call}: {what}: passes for right")).mismatch.to_string()
+        };
+        assert_eq!(found(1), found(3), "{call}: {what}");
+    }
+}
+
+#[test]
+fn a_side_that_panics_is_shown() {
+    let panics: Wrong = |_, call, _| assert_ne!(*call, Call::IncGeneration, "it does not go on");
+    let shown = found_out(&["edits"], 400, panics).expect("a wrong program").to_string();
+    assert!(shown.contains("  inc_generation()\n"), "{shown}");
+    assert!(shown.contains("the side that panics: assertion"), "{shown}");
+    assert!(shown.contains("it does not go on"), "{shown}");
 }
 
 /// The sentence of demand 3 that a canonical compression of some small arena does not keep once a change is made to it.

@@ -45,7 +45,7 @@ fn main() -> ExitCode {
     if !crate_text_found() {
         println!("the crate's files are not at hand, and so the crate is not asked");
     }
-    println!("{:<20} {:>13} {:>14} {:>8}", "section", "cases", "with the crate", "seconds");
+    println!("{:<20} {:>13} {:>14} {:>8}  what", "section", "cases", "with the crate", "seconds");
     let (mut all, began) = (Counts::default(), Instant::now());
     let chosen = |section: &&Section| options.section.as_deref().is_none_or(|name| name == section.name);
     for section in SECTIONS.iter().filter(chosen) {
@@ -57,7 +57,7 @@ fn main() -> ExitCode {
             }
         }
     }
-    row("all", &all, began);
+    row("all", &all, began, "");
     ExitCode::SUCCESS
 }
 
@@ -99,7 +99,7 @@ fn compare(section: &Section, options: &Options) -> Result<Counts, String> {
         let smallest = shrink::smallest(failure, options.run.product);
         return Err(format!("{smallest}the seed was {}", options.run.seed));
     }
-    row(section.name, &counts, progress.began);
+    row(section.name, &counts, progress.began, section.what);
     if options.run.most < jobs.count { Ok(counts) } else { complete(section, counts) }
 }
 
@@ -118,9 +118,10 @@ fn complete(section: &Section, counts: Counts) -> Result<Counts, String> {
 }
 
 /// Prints the line of a section.
-fn row(name: &str, counts: &Counts, began: Instant) {
+fn row(name: &str, counts: &Counts, began: Instant, what: &str) {
+    let (cases, with_crate) = (grouped(counts.cases), grouped(counts.with_crate));
     let seconds = began.elapsed().as_secs_f64();
-    println!("{name:<20} {:>13} {:>14} {seconds:>8.1}", grouped(counts.cases), grouped(counts.with_crate));
+    println!("{name:<20} {cases:>13} {with_crate:>14} {seconds:>8.1}  {what}");
 }
 
 /// A number with a comma before each three digits.
