@@ -36,6 +36,19 @@ pub struct Mismatch {
     pub other: Answer,
 }
 
+impl Mismatch {
+    /// Two sides that part on a case.
+    pub fn new(
+        side: &'static str,
+        before: &Arena,
+        call: &Call,
+        model: Option<Outcome>,
+        other: Answer,
+    ) -> Box<Self> {
+        Box::new(Self { side, before: before.clone(), call: call.clone(), model, other })
+    }
+}
+
 /// How many cases were compared, with whom, and what they answered.
 #[derive(Clone, Debug)]
 pub struct Counts {
@@ -188,19 +201,6 @@ pub fn compare(
     }
 }
 
-impl Mismatch {
-    /// Two sides that part on a case.
-    pub fn new(
-        side: &'static str,
-        before: &Arena,
-        call: &Call,
-        model: Option<Outcome>,
-        other: Answer,
-    ) -> Box<Self> {
-        Box::new(Self { side, before: before.clone(), call: call.clone(), model, other })
-    }
-}
-
 /// A side that parts from the model, and what it gives.
 type Parted = Option<(&'static str, Answer)>;
 
@@ -212,22 +212,21 @@ fn asked_product(
     expected: &Outcome,
     counts: &mut Counts,
 ) -> Parted {
-    if (1..=16).contains(&expected.reply.number) && (expected.arena != *before || expected.call != *call) {
-        return Some(("model", Err("a refused call wrote a word".to_string())));
-    }
     let answer = product(before, call)?;
     counts.with_exports += 1;
+    let said = |what: &str| Some(("export", Err(what.to_string())));
     let Ok(found) = &answer else {
         return Some(("export", answer));
     };
     if !agrees(before, expected, found) {
         return Some(("export", answer));
     }
+    let refused = (1..=16).contains(&found.reply.number);
+    if refused && (found.arena != *before || found.call != *call) {
+        return said("it wrote a word although it refused");
+    }
     if found.arena != *before && exports::check(&found.arena).number != 0 {
-        return Some((
-            "export",
-            Err("the arena that it leaves does not pass the exported check".to_string()),
-        ));
+        return said("the arena that it leaves does not pass the exported check");
     }
     None
 }

@@ -52,37 +52,12 @@ impl<'a> Shrinker<'a> {
         let before = self.case.clone();
         self.by_blocks(slots, without_slots);
         self.by_blocks(|case| if case.code == RUN { case.arguments.len() / 5 } else { 0 }, without_commands);
-        self.by_blocks(
-            |case| case.lent.len(),
-            |case, from, count| {
-                case.lent.drain(from..from + count);
-            },
-        );
-        self.by_blocks(
-            |case| case.arena.prev.len(),
-            |case, from, count| {
-                case.arena.prev[from..from + count].fill(0);
-            },
-        );
-        self.by_blocks(
-            |case| case.arena.next.len(),
-            |case, from, count| {
-                case.arena.next[from..from + count].fill(0);
-            },
-        );
-        self.by_blocks(
-            |case| case.arena.generation.len(),
-            |case, from, count| {
-                case.arena.generation[from..from + count].fill(0);
-            },
-        );
-        self.by_blocks(
-            |case| case.arena.payload.len(),
-            |case, from, count| {
-                case.arena.payload[from..from + count].fill(0);
-            },
-        );
-        self.by_blocks(|case| case.lent.len(), |case, from, count| case.lent[from..from + count].fill(0));
+        self.by_blocks(|case| case.lent.len(), |case, from, count| cut(&mut case.lent, from, count));
+        self.zeros(|case| &mut case.arena.prev);
+        self.zeros(|case| &mut case.arena.next);
+        self.zeros(|case| &mut case.arena.generation);
+        self.zeros(|case| &mut case.arena.payload);
+        self.zeros(|case| &mut case.lent);
         self.smaller(|case| &mut case.arena.header);
         self.smaller(|case| &mut case.arguments);
         self.alike_generations();
@@ -108,10 +83,10 @@ impl<'a> Shrinker<'a> {
     }
 
     /// Tries a change to many things at once, and then to fewer and fewer, from the last to the first.
-    fn by_blocks(&mut self, things: impl Fn(&Case) -> usize, change: impl Fn(&mut Case, usize, usize)) {
-        let mut count = things(&self.case);
+    fn by_blocks(&mut self, things: impl Fn(&mut Case) -> usize, change: impl Fn(&mut Case, usize, usize)) {
+        let mut count = things(&mut self.case);
         while count > 0 {
-            let mut end = things(&self.case);
+            let mut end = things(&mut self.case);
             while end > 0 {
                 let from = end.saturating_sub(count);
                 self.attempt(|case| change(case, from, end - from));
@@ -119,6 +94,14 @@ impl<'a> Shrinker<'a> {
             }
             count /= 2;
         }
+    }
+
+    /// Tries 0 in place of some words.
+    fn zeros<T: Clone + Default>(&mut self, words: impl Fn(&mut Case) -> &mut Vec<T>) {
+        self.by_blocks(
+            |case| words(case).len(),
+            |case, from, count| words(case)[from..from + count].fill(T::default()),
+        );
     }
 
     /// Tries smaller numbers for each of some words.
@@ -160,7 +143,7 @@ fn arguments_named<'a>(case: &'a mut Case, name: &'a str) -> impl Iterator<Item 
 }
 
 /// The number of slots of the longest column.
-fn slots(case: &Case) -> usize {
+fn slots(case: &mut Case) -> usize {
     let a = &case.arena;
     a.prev.len().max(a.next.len()).max(a.generation.len()).max(a.payload.len())
 }
