@@ -3,8 +3,8 @@
 use crate::random::Random;
 use crate::{Arena, Call, Ptr, Walk, model};
 
-/// The number of accepted arenas of stack length 0 to 5.
-pub const COUNTS: [usize; 6] = [1, 3, 13, 73, 501, 4_051];
+/// The number of accepted arenas of stack length 0 to 6.
+pub const COUNTS: [usize; 7] = [1, 3, 13, 73, 501, 4_051, 37_633];
 
 /// Every accepted arena of a stack length, its capacity equal to it, each link and the header at generation 5, each
 /// payload 100 and the slot, unread words 0.

@@ -54,6 +54,6 @@ fn arenas_that_compress_alike_hold_the_same_chains_of_payloads() {
             assert_eq!(*before, chains, "{a:?}");
         }
     }
-    assert_eq!(counts.cases as usize, 3 * COUNTS.iter().sum::<usize>());
+    assert_eq!(counts.cases as usize, 3 * COUNTS[..=5].iter().sum::<usize>());
     assert!(held.len() < counts.cases as usize);
 }

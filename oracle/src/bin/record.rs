@@ -239,6 +239,8 @@ fn answer_line(after: &Outcome) -> String {
 
 #[cfg(test)]
 mod tests {
+    use std::collections::BTreeSet;
+
     use super::*;
 
     /// Reads a case back from its line.
@@ -265,13 +267,47 @@ mod tests {
         (Arena { prev, next, generation, payload, header }, call)
     }
 
-    /// Each stored answer is the model's, and the crate's where its files are at hand and it has one.
-    #[test]
-    fn stored_answers_stand() {
+    /// The numbers that the call of a code can answer.
+    fn numbers(code: usize) -> Vec<u32> {
+        let own: &[u32] = match code {
+            2 | 3 | 5 => &[12],
+            7..=10 => &[12, 13],
+            11 => &[12, 100],
+            12 => &[12, 14],
+            13 => &[15],
+            14 => &[100],
+            16 => &[14, 16],
+            17 | 18 => &[14, 100],
+            _ => &[],
+        };
+        (0..=11).chain(own.iter().copied()).collect()
+    }
+
+    /// The stored cases and their answers.
+    fn stored() -> impl Iterator<Item = (&'static str, &'static str)> {
         let cases = include_str!("../../../crates/replay/stdin").lines();
         let answers = include_str!("../../../crates/replay/stdout").lines();
         assert_eq!(cases.clone().count(), answers.clone().count());
-        for (case, answer) in cases.zip(answers) {
+        cases.zip(answers)
+    }
+
+    /// Every call is there with every number that it can answer.
+    #[test]
+    fn stored_cases_are_of_every_kind() {
+        let first =
+            |line: &str| line.split(' ').next().and_then(|word| word.parse::<u32>().ok()).expect("a number");
+        let kinds: BTreeSet<(u32, u32)> =
+            stored().map(|(case, answer)| (first(case), first(answer))).collect();
+        let all =
+            (1..=18).flat_map(|code| numbers(code).into_iter().map(move |number| (code as u32, number)));
+        assert_eq!(kinds, all.collect());
+        assert!(stored().count() >= 2_000);
+    }
+
+    /// Each stored answer is the model's, and the crate's where its files are at hand and it has one.
+    #[test]
+    fn stored_answers_stand() {
+        for (case, answer) in stored() {
             let (before, call) = case_of(case);
             assert_eq!(case_line(&before, &call).as_deref(), Some(format!("{case}\n").as_str()));
             assert_eq!(answer_line(&model_outcome(&before, &call)), format!("{answer}\n"), "{case}");
