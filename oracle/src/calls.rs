@@ -32,13 +32,16 @@ fn some_ptr(r: &mut Random, a: &Arena) -> Ptr {
 }
 
 /// A state of a walk: one that is kept from before, or one of any words.
-fn some_walk(r: &mut Random, a: &Arena, kept: &[Walk]) -> Walk {
+pub fn some_walk(r: &mut Random, a: &Arena, kept: &[Walk]) -> Walk {
     if !kept.is_empty() && !r.once_in(4) {
         return r.pick(kept);
     }
-    let mut word = || if r.once_in(12) { r.word() } else { r.below(stack(a) + 2) as u32 };
-    let (start, position) = (word(), word());
-    let left = if r.once_in(12) { r.word() } else { r.below(links(a) + 2) as u32 };
+    let mut word = |most: usize| match r.below(12) {
+        0 => r.word(),
+        1 => 65_536 + r.below(most) as u32,
+        _ => r.below(most) as u32,
+    };
+    let (start, position, left) = (word(stack(a) + 2), word(stack(a) + 2), word(links(a) + 2));
     Walk { start, position, direction: r.pick(&[0, 0, 1, 2, u32::MAX]), left }
 }
 
@@ -71,35 +74,54 @@ fn some_run(r: &mut Random, a: &Arena) -> Call {
     Call::Run(words, vec![r.word(); answers])
 }
 
-/// A random call; removals are rare, since nothing is ever added.
+/// How often each call is made, by its code; removals are rare, since nothing is ever added.
+const OFTEN: [usize; 18] = [1, 4, 3, 3, 3, 10, 12, 3, 3, 8, 3, 1, 1, 1, 1, 1, 1, 1];
+
+/// A random call.
 pub fn some_call(r: &mut Random, a: &Arena, kept: &[Walk]) -> Call {
+    let mut place = r.below(OFTEN.iter().sum());
+    let mut code = 1;
+    while place >= OFTEN[code - 1] {
+        place -= OFTEN[code - 1];
+        code += 1;
+    }
+    call_of(code, r, a, kept)
+}
+
+/// Each of the calls once.
+pub fn each_call(r: &mut Random, a: &Arena) -> impl Iterator<Item = Call> {
+    (1..=OFTEN.len()).map(move |code| call_of(code, r, a, &[]))
+}
+
+/// The call of a code with random arguments.
+fn call_of(code: usize, r: &mut Random, a: &Arena, kept: &[Walk]) -> Call {
     let (p, q) = (some_ptr(r, a), some_ptr(r, a));
     let noise = r.word();
-    match r.below(60) {
-        0..=3 => Call::GetLink(p),
-        4..=6 => Call::GetLinkNoGen(p),
-        7..=9 => Call::AreNeighbors(p, q),
-        10..=12 => Call::WalkStart(p),
-        13..=22 => Call::WalkStep(some_walk(r, a, kept)),
-        23..=34 => Call::Connect(p, q),
-        35..=37 => Call::BreakPrev(p),
-        38..=40 => Call::BreakNext(p),
-        41..=48 => Call::ExchangeNext(p, q),
-        49..=51 => Call::Remove(p),
-        52 => Call::Drain(p, vec![noise; r.pick(&[0, 40, 5 * links(a), 5 * links(a) + 7])]),
-        53 => Call::SetGeneration(r.pick(&[0, 1, 2, 5, u32::MAX - 1, u32::MAX])),
-        54 => Call::IncGeneration,
-        55 => Call::CanonicalizeFreelist,
-        56 => some_run(r, a),
-        57 => {
+    match code {
+        1 => Call::Check,
+        2 => Call::GetLink(p),
+        3 => Call::GetLinkNoGen(p),
+        4 => Call::AreNeighbors(p, q),
+        5 => Call::WalkStart(p),
+        6 => Call::WalkStep(some_walk(r, a, kept)),
+        7 => Call::Connect(p, q),
+        8 => Call::BreakPrev(p),
+        9 => Call::BreakNext(p),
+        10 => Call::ExchangeNext(p, q),
+        11 => Call::Remove(p),
+        12 => Call::Drain(p, vec![noise; r.pick(&[0, 40, 5 * links(a), 5 * links(a) + 7])]),
+        13 => Call::SetGeneration(r.pick(&[0, 1, 2, 5, u32::MAX - 1, u32::MAX])),
+        14 => Call::IncGeneration,
+        15 => Call::CanonicalizeFreelist,
+        16 => some_run(r, a),
+        17 => {
             let words = (4 * links(a) + r.below(3)).saturating_sub(1);
             Call::CompressWith(r.below(2) as u32, vec![noise; words])
         }
-        58 => {
+        _ => {
             let places = if r.once_in(8) { a.capacity() + 1 } else { a.capacity() };
             Call::CompressCanonical(r.below(2) as u32, vec![noise as u16; places])
         }
-        _ => Call::Check,
     }
 }
 

@@ -3,8 +3,8 @@
 use crate::random::Random;
 use crate::{Arena, Call, Ptr, Walk, model};
 
-/// The number of accepted arenas of stack length 0 to 5.
-pub const COUNTS: [usize; 6] = [1, 3, 13, 73, 501, 4_051];
+/// The number of accepted arenas of stack length 0 to 6.
+pub const COUNTS: [usize; 7] = [1, 3, 13, 73, 501, 4_051, 37_633];
 
 /// Every accepted arena of a stack length, its capacity equal to it, each link and the header at generation 5, each
 /// payload 100 and the slot, unread words 0.
@@ -95,39 +95,38 @@ pub fn dressed_arenas(length: usize) -> Vec<Arena> {
     arenas
 }
 
-/// Every tuple of words of a stack length: each slot's generation 0 or 5, its prev and next, the root and the link count
-/// each 0 to the length and 1. The capacity is the length and `room`, with noise past the stack.
-pub fn each_tuple(length: usize, room: usize, mut found: impl FnMut(&mut Arena)) {
+/// Tuples of words of a stack length: each slot's generation 0 or 5, its prev and next, the root and the link count each 0
+/// to the length and 1. Those of one numbered tuple of slots, with every root and link count; the capacity is the length
+/// and `room`, with noise past the stack.
+pub fn each_tuple(length: usize, room: usize, slots: usize, mut found: impl FnMut(&Arena)) {
     let mut r = Random::new(length as u64);
     let a = Arena { header: vec![length as u32, 0, 0, 5], ..Arena::empty(length) };
     let mut a = dressed(&a, &mut r, room, &[5], 5);
     let words = length + 2;
-    for slots in 0..(2 * words * words).pow(length as u32) {
-        let mut rest = slots;
-        let mut digit = |base: usize| {
-            let digit = rest % base;
-            rest /= base;
-            digit
-        };
-        for place in 0..length {
-            a.generation[place] = 5 * digit(2) as u32;
-            a.prev[place] = digit(words) as u16;
-            a.next[place] = digit(words) as u16;
-        }
-        for root in 0..words {
-            for links in 0..words {
-                a.header[crate::header::ROOT] = root as u32;
-                a.header[crate::header::LINKS] = links as u32;
-                found(&mut a);
-            }
+    let mut rest = slots;
+    let mut digit = |base: usize| {
+        let digit = rest % base;
+        rest /= base;
+        digit
+    };
+    for place in 0..length {
+        a.generation[place] = 5 * digit(2) as u32;
+        a.prev[place] = digit(words) as u16;
+        a.next[place] = digit(words) as u16;
+    }
+    for root in 0..words {
+        for links in 0..words {
+            a.header[crate::header::ROOT] = root as u32;
+            a.header[crate::header::LINKS] = links as u32;
+            found(&a);
         }
     }
 }
 
-/// The number of tuples of a stack length.
-pub fn tuples(length: usize) -> usize {
+/// The number of tuples of the slots of a stack length.
+pub fn slot_tuples(length: usize) -> usize {
     let words = length + 2;
-    (2 * words * words).pow(length as u32) * words * words
+    (2 * words * words).pow(length as u32)
 }
 
 /// Pointers to slots 0 to the stack length and 1: with the generation there, with another, and with 0.

@@ -16,7 +16,13 @@ pub struct Outcome {
     pub arena: Arena,
 }
 
-/// Two sides that part on a case.
+/// What a side gives for a case: what it leaves, or in words what else it did.
+pub type Answer = Result<Outcome, String>;
+
+/// The side that stands for the product, or none for a call that it does not have.
+pub type Product<'a> = &'a (dyn Fn(&Arena, &Call) -> Option<Answer> + Sync);
+
+/// Two sides that part on a case; `show` prints it.
 pub struct Mismatch {
     /// Which side parts from the model
     pub side: &'static str,
@@ -24,19 +30,22 @@ pub struct Mismatch {
     pub before: Arena,
     /// The call
     pub call: Call,
-    /// What the model leaves
-    pub model: Outcome,
-    /// What the other side leaves
-    pub other: String,
+    /// What the model leaves, if it ended
+    pub model: Option<Outcome>,
+    /// What the other side gives
+    pub other: Answer,
 }
 
-impl fmt::Debug for Mismatch {
-    fn fmt(&self, f: &mut fmt::Formatter<'_>) -> fmt::Result {
-        writeln!(f, "the {} parts from the model", self.side)?;
-        writeln!(f, "call    {:?}", self.call)?;
-        writeln!(f, "before  {:?}", self.before)?;
-        writeln!(f, "model   {:?}", self.model)?;
-        writeln!(f, "other   {}", self.other)
+impl Mismatch {
+    /// Two sides that part on a case.
+    pub fn new(
+        side: &'static str,
+        before: &Arena,
+        call: &Call,
+        model: Option<Outcome>,
+        other: Answer,
+    ) -> Box<Self> {
+        Box::new(Self { side, before: before.clone(), call: call.clone(), model, other })
     }
 }
 
@@ -80,30 +89,28 @@ impl Counts {
         self.numbers[number as usize] += 1;
     }
 
-    /// Says what was compared, and what was skipped, and holds to it that all that is there was asked.
-    pub fn report(&self, what: &str) {
-        self.say(what);
-        if !crate_text_found() {
-            say(what, "the crate's files are not at hand, so the live comparison was skipped");
+    /// Adds what was counted elsewhere.
+    pub fn add(&mut self, other: &Self) {
+        self.cases += other.cases;
+        self.with_crate += other.with_crate;
+        self.with_exports += other.with_exports;
+        for (count, more) in self.numbers.iter_mut().zip(other.numbers) {
+            *count += more;
         }
-        assert_eq!(self.with_crate > 0, crate_text_found(), "{what}: the crate was not asked");
     }
 
-    /// Says how many cases there were, and which of them were not asked of the exports.
+    /// Says how many cases there were, past the test harness, which keeps the lines of tests that pass; and holds to it
+    /// that each was asked of an exported call, if all levels are linked.
     pub fn say(&self, what: &str) {
-        say(what, &self.to_string());
+        let _ = writeln!(stderr(), "{what}: {self}");
         let missing: Vec<usize> = (1..=3).filter(|&level| !exports::linked(level)).collect();
         if missing.is_empty() {
             assert_eq!(self.with_exports, self.cases, "{what}: an exported call was not asked");
         } else if self.with_exports < self.cases {
-            say(what, &format!("not linked, and so not asked: the calls of level {missing:?}"));
+            let _ =
+                writeln!(stderr(), "{what}: not linked, and so not asked: the calls of level {missing:?}");
         }
     }
-}
-
-/// Writes a line past the test harness, which keeps the lines of tests that pass.
-fn say(what: &str, line: &str) {
-    let _ = writeln!(stderr(), "{what}: {line}");
 }
 
 /// How many times the default number of random cases is made: 50 times for a long run, where CHAIN_ARENA_LONG is set.
@@ -150,11 +157,11 @@ pub fn crate_number(_: &Arena) -> Option<u32> {
     None
 }
 
-/// What the exported call leaves, if it is exported.
-pub fn export_outcome(before: &Arena, call: &Call) -> Option<Outcome> {
+/// What the exported call leaves on copies that are exactly as long as what is lent, if it is exported.
+pub fn export_outcome(before: &Arena, call: &Call) -> Option<Answer> {
     let (mut arena, mut call) = (before.clone(), call.clone());
     let reply = exports::perform(&mut arena, &mut call)?;
-    Some(Outcome { reply, call, arena })
+    Some(Ok(Outcome { reply, call, arena }))
 }
 
 /// What the call leaves if it is made through the safe wrapper, if its level is linked.
@@ -162,11 +169,6 @@ pub fn wrapper_outcome(before: &Arena, call: &Call) -> Option<Outcome> {
     let (mut arena, mut call) = (before.clone(), call.clone());
     let reply = wrapper::perform(&mut arena, &mut call)?;
     Some(Outcome { reply, call, arena })
-}
-
-/// What the product leaves: the exported call, or the model of it while its level is not linked.
-pub fn product_outcome(before: &Arena, call: &Call) -> Outcome {
-    export_outcome(before, call).unwrap_or_else(|| model_outcome(before, call))
 }
 
 /// Whether an outcome is the model's, but for the slot that 11 names: there rule 11 must fail.
@@ -181,69 +183,104 @@ pub fn agrees(before: &Arena, model: &Outcome, other: &Outcome) -> bool {
         && model.arena == other.arena
 }
 
-/// Makes one call all three ways.
-pub fn compare(before: &Arena, call: &Call, counts: &mut Counts) -> Result<(), Box<Mismatch>> {
+/// Makes one call all three ways and answers what the model leaves. A refused call must leave every word as it was, and a
+/// call that writes an arena that passes the exported check.
+pub fn compare(
+    product: Product,
+    before: &Arena,
+    call: &Call,
+    counts: &mut Counts,
+) -> Result<Outcome, Box<Mismatch>> {
     let expected = model_outcome(before, call);
     counts.count(expected.reply.number);
-    let mismatch = |side, other: String| {
-        Err(Box::new(Mismatch {
-            side,
-            before: before.clone(),
-            call: call.clone(),
-            model: expected.clone(),
-            other,
-        }))
-    };
-    if let Some(found) = export_outcome(before, call) {
-        counts.with_exports += 1;
-        if !agrees(before, &expected, &found) {
-            return mismatch("export", format!("{found:?}"));
-        }
+    let parted = asked_product(product, before, call, &expected, counts)
+        .or_else(|| asked_crate(before, call, &expected, counts));
+    match parted {
+        None => Ok(expected),
+        Some((side, other)) => Err(Mismatch::new(side, before, call, Some(expected), other)),
     }
-    if (1..=11).contains(&expected.reply.number) {
-        if let Some(number) = crate_number(before) {
-            counts.with_crate += 1;
-            if number != expected.reply.number {
-                return mismatch("crate", format!("its check says {number}"));
-            }
-        }
-    } else if let Some(found) = crate_outcome(before, call) {
-        counts.with_crate += 1;
-        if expected != found {
-            return mismatch("crate", format!("{found:?}"));
-        }
-    }
-    Ok(())
 }
 
-/// Holds a check to the model and to the crate on one arena: the number, the slot that 11 names, and that nothing is
-/// written.
-pub fn compare_check(
-    a: &Arena,
+/// A side that parts from the model, and what it gives.
+type Parted = Option<(&'static str, Answer)>;
+
+/// Holds the product to what the model leaves.
+fn asked_product(
+    product: Product,
+    before: &Arena,
+    call: &Call,
+    expected: &Outcome,
     counts: &mut Counts,
-    check: impl Fn(&Arena) -> Reply,
-) -> Result<(), Box<Mismatch>> {
-    let number = model::check(a);
-    counts.count(number);
-    let mismatch = |side, other: String| {
-        let model = model_outcome(a, &Call::Check);
-        Err(Box::new(Mismatch { side, before: a.clone(), call: Call::Check, model, other }))
-    };
-    if let Some(says) = crate_number(a) {
-        counts.with_crate += 1;
-        if says != number {
-            return mismatch("crate", format!("its check says {says}"));
-        }
-    }
-    let copy = a.clone();
-    let found = check(a);
+) -> Parted {
+    let answer = product(before, call)?;
     counts.with_exports += 1;
-    let named = if number == 11 { model::rule11_fails(a, found.broken) } else { found.broken == 0 };
-    if found.number != number || !named || found.words != [0; 6] {
-        return mismatch("check", format!("{found:?}"));
+    let said = |what: &str| Some(("export", Err(what.to_string())));
+    let Ok(found) = &answer else {
+        return Some(("export", answer));
+    };
+    if !agrees(before, expected, found) {
+        return Some(("export", answer));
     }
-    if copy != *a {
-        return mismatch("check", "it wrote to a lent buffer".to_string());
+    let refused = (1..=16).contains(&found.reply.number);
+    if refused && (found.arena != *before || found.call != *call) {
+        return said("it wrote a word although it refused");
     }
-    Ok(())
+    if found.arena != *before && exports::check(&found.arena).number != 0 {
+        return said("the arena that it leaves does not pass the exported check");
+    }
+    None
+}
+
+/// Holds the crate's text to what the model leaves. On an arena that does not pass, the crate has its check and no other
+/// call.
+fn asked_crate(before: &Arena, call: &Call, expected: &Outcome, counts: &mut Counts) -> Parted {
+    if !(1..=11).contains(&expected.reply.number) {
+        let found = crate_outcome(before, call)?;
+        counts.with_crate += 1;
+        return (*expected != found).then_some(("crate", Ok(found)));
+    }
+    if *call != Call::Check {
+        return None;
+    }
+    let number = crate_number(before)?;
+    counts.with_crate += 1;
+    (number != expected.reply.number).then(|| ("crate", Err(format!("its check says {number}"))))
+}
+
+/// A crate arena that lives through a sequence of calls.
+#[cfg(crate_text)]
+pub struct Live(crate::crate_side::CrateArena);
+
+#[cfg(crate_text)]
+impl Live {
+    /// The crate's arena of these columns, which pass the check.
+    pub fn new(a: &Arena) -> Self {
+        Self(crate::crate_side::CrateArena::hold(a).expect("a whole arena"))
+    }
+
+    /// Makes the call if the crate has it, and holds what it leaves to the model.
+    pub fn follow(&mut self, before: &Arena, call: &Call, expected: &Outcome) -> Option<Box<Mismatch>> {
+        let mut lent = call.clone();
+        let reply = self.0.perform(&mut lent)?;
+        let found = Outcome { reply, call: lent, arena: self.0.columns(before) };
+        let side = "crate arena of the whole sequence";
+        (found != *expected).then(|| Mismatch::new(side, before, call, Some(expected.clone()), Ok(found)))
+    }
+}
+
+/// The crate's text is not at hand.
+#[cfg(not(crate_text))]
+pub struct Live;
+
+#[cfg(not(crate_text))]
+impl Live {
+    /// Nothing to follow.
+    pub fn new(_: &Arena) -> Self {
+        Self
+    }
+
+    /// Nothing is compared.
+    pub fn follow(&mut self, _: &Arena, _: &Call, _: &Outcome) -> Option<Box<Mismatch>> {
+        None
+    }
 }

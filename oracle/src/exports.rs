@@ -2,22 +2,23 @@
 
 use crate::{Arena, Call, Reply};
 
-/// Makes an exported call on an arena's columns and header, and answers the named further words of its result.
+/// Makes an exported call on the words between `guard` words at each end of an arena's columns and header, and answers the
+/// named further words of its result.
 macro_rules! call {
-    ($call:ident($arena:expr, $pointer:ident $(, $argument:expr)*) $($word:ident)*) => {{
-        // Safety: each pointer and count are those of one vector, and no two calls run at once.
+    ($call:ident($arena:expr, $guard:expr, $pointer:ident $(, $argument:expr)*) $($word:ident)*) => {{
+        // Safety: each pointer and count are those of one vector, less its guard words, and no two calls lend one vector.
         let answer = unsafe {
             chain_arena::ffi::$call(
-                $arena.prev.$pointer(),
-                $arena.prev.len(),
-                $arena.next.$pointer(),
-                $arena.next.len(),
-                $arena.generation.$pointer(),
-                $arena.generation.len(),
-                $arena.payload.$pointer(),
-                $arena.payload.len(),
-                $arena.header.$pointer(),
-                $arena.header.len(),
+                $arena.prev.$pointer().add($guard),
+                $arena.prev.len() - 2 * $guard,
+                $arena.next.$pointer().add($guard),
+                $arena.next.len() - 2 * $guard,
+                $arena.generation.$pointer().add($guard),
+                $arena.generation.len() - 2 * $guard,
+                $arena.payload.$pointer().add($guard),
+                $arena.payload.len() - 2 * $guard,
+                $arena.header.$pointer().add($guard),
+                $arena.header.len() - 2 * $guard,
                 $($argument),*
             )
         };
@@ -32,37 +33,42 @@ pub fn linked(level: usize) -> bool {
 
 /// Makes one call through the archive that exports it, or none if it is not linked.
 pub fn perform(a: &mut Arena, call: &mut Call) -> Option<Reply> {
+    perform_between(a, call, 0)
+}
+
+/// The same where every vector of the arena and of the call has so many guard words at each end, which are not lent.
+pub fn perform_between(a: &mut Arena, call: &mut Call, guard: usize) -> Option<Reply> {
     match call.level() {
-        1 => level_one(a, call),
-        2 => level_two(a, call),
-        _ => level_three(a, call),
+        1 => level_one(a, call, guard),
+        2 => level_two(a, call, guard),
+        _ => level_three(a, call, guard),
     }
 }
 
 /// The exported check.
 pub fn check(a: &Arena) -> Reply {
-    call!(chain_arena_check(a, as_ptr))
+    call!(chain_arena_check(a, 0, as_ptr))
 }
 
 /// The calls of Level One.
 #[rustfmt::skip]
-fn level_one(a: &Arena, call: &Call) -> Option<Reply> {
+fn level_one(a: &Arena, call: &Call, guard: usize) -> Option<Reply> {
     Some(match *call {
-        Call::Check => check(a),
+        Call::Check => call!(chain_arena_check(a, guard, as_ptr)),
         Call::GetLink(p) => {
-            call!(chain_arena_get_link(a, as_ptr, p.slot, p.generation) prev prev_generation next next_generation payload)
+            call!(chain_arena_get_link(a, guard, as_ptr, p.slot, p.generation) prev prev_generation next next_generation payload)
         }
         Call::GetLinkNoGen(p) => {
-            call!(chain_arena_get_link_no_gen(a, as_ptr, p.slot, p.generation) prev next payload)
+            call!(chain_arena_get_link_no_gen(a, guard, as_ptr, p.slot, p.generation) prev next payload)
         }
         Call::AreNeighbors(p, q) => {
-            call!(chain_arena_are_neighbors(a, as_ptr, p.slot, p.generation, q.slot, q.generation) yes)
+            call!(chain_arena_are_neighbors(a, guard, as_ptr, p.slot, p.generation, q.slot, q.generation) yes)
         }
         Call::WalkStart(p) => {
-            call!(chain_arena_walk_start(a, as_ptr, p.slot, p.generation) start position direction left)
+            call!(chain_arena_walk_start(a, guard, as_ptr, p.slot, p.generation) start position direction left)
         }
         Call::WalkStep(walk) => {
-            call!(chain_arena_walk_step(a, as_ptr, walk.start, walk.position, walk.direction, walk.left)
+            call!(chain_arena_walk_step(a, guard, as_ptr, walk.start, walk.position, walk.direction, walk.left)
                 slot generation start position direction left)
         }
         _ => return None,
@@ -72,26 +78,27 @@ fn level_one(a: &Arena, call: &Call) -> Option<Reply> {
 /// The calls of Level Two.
 #[cfg(level_two)]
 #[rustfmt::skip]
-fn level_two(a: &mut Arena, call: &mut Call) -> Option<Reply> {
+fn level_two(a: &mut Arena, call: &mut Call, guard: usize) -> Option<Reply> {
     Some(match call {
         Call::Connect(p, q) => {
-            call!(chain_arena_connect(a, as_mut_ptr, p.slot, p.generation, q.slot, q.generation))
+            call!(chain_arena_connect(a, guard, as_mut_ptr, p.slot, p.generation, q.slot, q.generation))
         }
-        Call::BreakPrev(p) => call!(chain_arena_break_prev(a, as_mut_ptr, p.slot, p.generation)),
-        Call::BreakNext(p) => call!(chain_arena_break_next(a, as_mut_ptr, p.slot, p.generation)),
+        Call::BreakPrev(p) => call!(chain_arena_break_prev(a, guard, as_mut_ptr, p.slot, p.generation)),
+        Call::BreakNext(p) => call!(chain_arena_break_next(a, guard, as_mut_ptr, p.slot, p.generation)),
         Call::ExchangeNext(p, q) => {
-            call!(chain_arena_exchange_next(a, as_mut_ptr, p.slot, p.generation, q.slot, q.generation))
+            call!(chain_arena_exchange_next(a, guard, as_mut_ptr, p.slot, p.generation, q.slot, q.generation))
         }
-        Call::Remove(p) => call!(chain_arena_remove(a, as_mut_ptr, p.slot, p.generation) prev next payload),
+        Call::Remove(p) => call!(chain_arena_remove(a, guard, as_mut_ptr, p.slot, p.generation) prev next payload),
         Call::Drain(p, report) => {
-            call!(chain_arena_drain(a, as_mut_ptr, p.slot, p.generation, report.as_mut_ptr(), report.len())
-                items overflowed)
+            call!(chain_arena_drain(a, guard, as_mut_ptr, p.slot, p.generation, report.as_mut_ptr().add(guard),
+                report.len() - 2 * guard) items overflowed)
         }
-        Call::SetGeneration(to) => call!(chain_arena_set_generation(a, as_mut_ptr, *to)),
-        Call::IncGeneration => call!(chain_arena_inc_generation(a, as_mut_ptr)),
-        Call::CanonicalizeFreelist => call!(chain_arena_canonicalize_freelist(a, as_mut_ptr)),
+        Call::SetGeneration(to) => call!(chain_arena_set_generation(a, guard, as_mut_ptr, *to)),
+        Call::IncGeneration => call!(chain_arena_inc_generation(a, guard, as_mut_ptr)),
+        Call::CanonicalizeFreelist => call!(chain_arena_canonicalize_freelist(a, guard, as_mut_ptr)),
         Call::Run(commands, answers) => {
-            call!(chain_arena_run(a, as_mut_ptr, commands.as_ptr(), commands.len(), answers.as_mut_ptr(), answers.len()))
+            call!(chain_arena_run(a, guard, as_mut_ptr, commands.as_ptr().add(guard), commands.len() - 2 * guard,
+                answers.as_mut_ptr().add(guard), answers.len() - 2 * guard))
         }
         _ => return None,
     })
@@ -99,20 +106,20 @@ fn level_two(a: &mut Arena, call: &mut Call) -> Option<Reply> {
 
 /// Level Two is not linked.
 #[cfg(not(level_two))]
-fn level_two(_: &mut Arena, _: &mut Call) -> Option<Reply> {
+fn level_two(_: &mut Arena, _: &mut Call, _: usize) -> Option<Reply> {
     None
 }
 
 /// The calls of Level Three.
 #[cfg(level_three)]
 #[rustfmt::skip]
-fn level_three(a: &mut Arena, call: &mut Call) -> Option<Reply> {
+fn level_three(a: &mut Arena, call: &mut Call, guard: usize) -> Option<Reply> {
     Some(match call {
         Call::CompressWith(reset, report) => {
-            call!(chain_arena_compress_with(a, as_mut_ptr, *reset, report.as_mut_ptr(), report.len()))
+            call!(chain_arena_compress_with(a, guard, as_mut_ptr, *reset, report.as_mut_ptr().add(guard), report.len() - 2 * guard))
         }
         Call::CompressCanonical(reset, from) => {
-            call!(chain_arena_compress_canonical(a, as_mut_ptr, *reset, from.as_mut_ptr(), from.len()))
+            call!(chain_arena_compress_canonical(a, guard, as_mut_ptr, *reset, from.as_mut_ptr().add(guard), from.len() - 2 * guard))
         }
         _ => return None,
     })
@@ -120,6 +127,6 @@ fn level_three(a: &mut Arena, call: &mut Call) -> Option<Reply> {
 
 /// Level Three is not linked.
 #[cfg(not(level_three))]
-fn level_three(_: &mut Arena, _: &mut Call) -> Option<Reply> {
+fn level_three(_: &mut Arena, _: &mut Call, _: usize) -> Option<Reply> {
     None
 }

@@ -2,7 +2,8 @@
 //!
 //! `model` is written from the sentences of document 01. `crate_side` runs the files of crate triple_arena 0.15.1,
 //! unchanged, where they are at hand (see GLUE.md). `exports` calls the archives. `compare` makes one call all three ways
-//! and says where they part. `wrapper` makes the calls of `exports` through the safe wrapper.
+//! and says where they part; `sections` are the cases that it is made on, `runner` runs them, `shrink` and `show` make of a
+//! case that fails a small one to be read. `wrapper` makes the calls of `exports` through the safe wrapper.
 
 pub mod calls;
 pub mod cases;
@@ -11,8 +12,14 @@ pub mod compare;
 pub mod crate_side;
 pub mod demand3;
 pub mod exports;
+pub mod guards;
 pub mod model;
 pub mod random;
+pub mod runner;
+pub mod sections;
+mod show;
+pub mod shrink;
+pub mod words;
 pub mod wrapper;
 
 /// The largest number of slots that an arena can have.

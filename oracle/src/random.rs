@@ -1,7 +1,7 @@
 //! Random arenas from a seed: whole ones of every kind, and damage to them.
 
 use crate::header::{GENERATION, LINKS, ROOT, STACK};
-use crate::{Arena, LIMIT};
+use crate::{Arena, LIMIT, model};
 
 /// A xorshift generator; the same seed gives the same numbers everywhere.
 pub struct Random(u64);
@@ -14,6 +14,11 @@ impl Random {
             random.bits();
         }
         random
+    }
+
+    /// The generator of a job of a run with a seed.
+    pub fn of(seed: u64, job: u64) -> Self {
+        Self::new(Self::new(seed).bits().wrapping_add(job))
     }
 
     /// The next 64 bits.
@@ -294,29 +299,43 @@ fn damage_generation(r: &mut Random, a: &mut Arena) {
 
 /// Makes a column longer or shorter, or the header of another length.
 fn damage_shape(r: &mut Random, a: &mut Arena) {
-    match r.below(9) {
-        0 => a.prev.push(0),
-        1 => a.next.push(0),
-        2 => a.generation.push(0),
-        3 => a.payload.push(0),
-        4 => a.prev.truncate(a.prev.len().saturating_sub(1)),
-        5 => a.next.truncate(a.next.len().saturating_sub(1)),
-        6 => a.generation.truncate(a.generation.len().saturating_sub(1)),
-        7 => a.payload.truncate(a.payload.len().saturating_sub(1)),
-        _ => {
-            let length = r.below(7);
-            a.header.resize(length, 2);
-        }
+    let other = |r: &mut Random, length: usize| match r.below(4) {
+        0 => length + 1,
+        1 => length.saturating_sub(1),
+        2 => r.below(length + 1),
+        _ => r.below(2 * length + 3),
+    };
+    match r.below(5) {
+        0 => a.prev.resize(other(r, a.prev.len()), 0),
+        1 => a.next.resize(other(r, a.next.len()), 0),
+        2 => a.generation.resize(other(r, a.generation.len()), 0),
+        3 => a.payload.resize(other(r, a.payload.len()), 0),
+        _ => a.header.resize(r.below(7), 2),
     }
 }
 
 /// A whole arena with one to three things damaged.
 pub fn damaged(r: &mut Random, most: usize) -> Arena {
-    let mut a = any_whole(r, most);
+    let a = any_whole(r, most);
+    damaged_more(r, a)
+}
+
+/// The arena with one to three things damaged.
+fn damaged_more(r: &mut Random, mut a: Arena) -> Arena {
     for _ in 0..1 + r.below(3) {
         if a.header.len() == 4 && a.prev.len().min(a.next.len()).min(a.generation.len()) >= a.stack() {
             damage(r, &mut a);
         }
     }
     a
+}
+
+/// The arena damaged so that it no longer passes the check.
+pub fn broken(r: &mut Random, whole: &Arena) -> Arena {
+    loop {
+        let a = damaged_more(r, whole.clone());
+        if model::check(&a) != 0 {
+            return a;
+        }
+    }
 }

@@ -1,7 +1,7 @@
 //! K1 to K12, by the model, the crate's text and the exports.
 
-use oracle::compare::{Counts, compare, model_outcome};
-use oracle::{Arena, Call, Ptr, Reply, Walk};
+use oracle::compare::{Counts, compare};
+use oracle::{Arena, Call, Ptr, Reply, Walk, guards};
 
 /// An arena whose links all have generation 5, the current one: each slot's (prev, next), or (0, pointer) if it is free.
 fn arena(slots: &[(u16, u16)], free: &[usize], root: u32) -> Arena {
@@ -30,8 +30,7 @@ fn play(mut a: Arena, calls: Vec<Call>) -> (Vec<Reply>, Call, Arena) {
     let mut replies = Vec::new();
     let mut last = Call::Check;
     for call in calls {
-        compare(&a, &call, &mut counts).unwrap();
-        let outcome = model_outcome(&a, &call);
+        let outcome = compare(&guards::outcome, &a, &call, &mut counts).unwrap();
         replies.push(outcome.reply);
         last = outcome.call;
         a = outcome.arena;

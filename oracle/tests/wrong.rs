@@ -1,12 +1,14 @@
 //! The comparison must be able to fail: one wrong word is seen, and for each of the 18 calls programs that are wrong in a
-//! likely way are found out on the cases that the other tests go through.
+//! likely way are found out by its sections, and shown on a small case.
 
 use std::collections::BTreeSet;
 
-use oracle::compare::{Outcome, agrees, model_outcome};
+use oracle::compare::{Answer, Mismatch, Outcome, Product, agrees, model_outcome};
 use oracle::header::{GENERATION, LINKS, ROOT, STACK};
 use oracle::random::{self, Random};
-use oracle::{Arena, Call, Ptr, Reply, Walk, calls, cases, demand3, model};
+use oracle::runner::{Failure, Run};
+use oracle::sections::{Form, SECTIONS};
+use oracle::{Arena, Call, Ptr, Reply, Walk, calls, cases, demand3, model, shrink};
 
 /// Every outcome that differs from the given one in one word.
 fn one_word_off(right: &Outcome) -> Vec<Outcome> {
@@ -67,6 +69,12 @@ type Wrong = fn(&Arena, &Call, &mut Outcome);
 const WRONG: &[(&str, &str, Wrong)] = &[
     ("check", "accepts every arena", |_, call, o| if matches!(call, Call::Check) { o.reply = Reply::number(0) }),
     ("check", "refuses every arena", |_, call, o| if matches!(call, Call::Check) { o.reply = Reply::number(4) }),
+    ("check", "the links not counted", |_, _, o| if o.reply.number == 4 { o.reply.number = 0 }),
+    ("check", "10 for 9", |_, _, o| if o.reply.number == 9 { o.reply.number = 10 }),
+    ("check", "only next looked at", |a, _, o| if o.reply.number == 11 { only_next(a, o) }),
+    ("check", "a healthy slot named", |_, _, o| if o.reply.number == 11 { o.reply.broken = o.reply.broken % 2 + 1 }),
+    ("check", "no slot named", |_, _, o| o.reply.broken = 0),
+    ("check", "a slot named where nothing is broken", |_, _, o| o.reply.broken = o.reply.broken.max(1)),
     ("get_link", "prev and next exchanged", |_, call, o| if matches!(call, Call::GetLink(_)) {
         o.reply.words.swap(0, 2);
         o.reply.words.swap(1, 3);
@@ -253,6 +261,18 @@ const WRONG: &[(&str, &str, Wrong)] = &[
     }),
 ];
 
+/// Looks for a broken link by its next alone.
+fn only_next(a: &Arena, o: &mut Outcome) {
+    let fails = |s: usize| {
+        let next = a.next[s - 1] as usize;
+        next != 0 && !(a.is_link(next) && a.prev[next - 1] as usize == s)
+    };
+    match a.link_slots().find(|&s| fails(s)) {
+        Some(s) => o.reply.broken = s as u32,
+        None => (o.reply.number, o.reply.broken) = (0, 0),
+    }
+}
+
 /// Changes the outcome of a step along next that answers a link.
 fn at_end(a: &Arena, o: &mut Outcome, change: impl Fn(&Arena, Walk, &mut Outcome)) {
     if let Call::WalkStep(walk) = o.call
@@ -348,46 +368,105 @@ fn by_lowest(a: &Arena) -> Vec<usize> {
     order
 }
 
-/// Whether a program is found out on the arenas of stack length 0 to 3, on the compressions of those of 4, or on damaged
-/// ones.
-fn found_out(program: Wrong) -> bool {
-    let differs = |a: &Arena, call: Call| {
-        let right = model_outcome(a, &call);
-        let mut other = right.clone();
-        program(a, &call, &mut other);
-        !agrees(a, &right, &other)
-    };
-    let on = |a: &Arena| {
-        let mut found = false;
-        let mut look = |call: Call| found = found || differs(a, call);
-        cases::each_compression(a, &mut look);
-        if a.stack() <= 3 {
-            cases::each_reading(a, &mut look);
-            cases::each_edit(a, &mut look);
-        }
-        if a.stack() <= 2 {
-            cases::each_wide_step(a, &mut look);
-            cases::each_pair_of_commands(a, &mut look);
-        }
-        found
-    };
-    let on_damaged = |seed| {
-        let mut r = Random::new(seed);
-        let a = random::damaged(&mut r, 5);
-        let call = calls::some_call(&mut r, &a, &[]);
-        differs(&a, call)
-    };
-    (0..=4).any(|length| cases::dressed_arenas(length).iter().any(on)) || (0..2_000).any(on_damaged)
+/// The failure of the first of so many jobs of the sections of these names that finds a program out.
+fn failure(sections: &[&str], most: usize, threads: usize, product: Product) -> Option<Failure> {
+    let run = Run { product, seed: 1, threads, most };
+    let mut named = SECTIONS.iter().filter(|section| sections.contains(&section.name));
+    named.find_map(|section| run.run(&(section.jobs)(Form::Short), |_| {}).1)
+}
+
+/// A wrong program as a side of the comparison.
+fn side(program: Wrong) -> impl Fn(&Arena, &Call) -> Option<Answer> {
+    move |a, call| {
+        let mut outcome = model_outcome(a, call);
+        program(a, call, &mut outcome);
+        Some(Ok(outcome))
+    }
+}
+
+/// The case on which so many jobs of the sections of these names find a program out, made small.
+fn found_out(sections: &[&str], most: usize, program: Wrong) -> Option<Box<Mismatch>> {
+    let product = side(program);
+    Some(shrink::smallest(failure(sections, most, 1, &product)?, &product))
+}
+
+/// The sections that go through every small case of a call; a refused step is found on damaged arenas alone.
+fn sections_of(call: &str) -> &'static [&'static str] {
+    match call {
+        "check" => &["tuples"],
+        "get_link" | "get_link_no_gen" | "are_neighbors" | "walk_start" => &["reading"],
+        "walk_step" => &["steps", "damage"],
+        "run" => &["edits", "pairs"],
+        "compress_with" | "compress_canonical" => &["compressions"],
+        _ => &["edits"],
+    }
 }
 
 #[test]
 fn a_wrong_program_is_found_out() {
-    assert!(!found_out(|_, _, _| {}), "a right program is taken for wrong");
     for (call, what, program) in WRONG {
-        assert!(found_out(*program), "{call}: {what}: passes for right");
+        assert!(found_out(sections_of(call), 2_500, *program).is_some(), "{call}: {what}: passes for right");
     }
     let calls: BTreeSet<&str> = WRONG.iter().map(|(call, _, _)| *call).collect();
     assert_eq!(calls.len(), 18, "there is a wrong program for each call");
+    for call in calls {
+        let right = found_out(sections_of(call), 100, |_, _, _| {});
+        assert!(right.is_none(), "a right program is taken for wrong: {right:?}");
+    }
+}
+
+#[test]
+fn what_random_cases_find_is_shown_on_a_small_one() {
+    for (call, what, program) in WRONG {
+        let shown = found_out(&["sequences", "damage"], 400, *program);
+        let shown = shown.unwrap_or_else(|| panic!("{call}: {what}: passes for right"));
+        let small = shown.before.capacity() <= 4 && shown.call.arguments().len() <= 10;
+        assert!(small, "{call}: {what}: {shown}");
+    }
+}
+
+#[test]
+fn a_case_is_shown_with_the_words_that_differ() {
+    let one_sided: Wrong = |a, call, o| {
+        if let (Call::Connect(p, q), 0) = (call, o.reply.number)
+            && p != q
+        {
+            o.arena.prev[q.slot as usize - 1] = a.prev[q.slot as usize - 1];
+        }
+    };
+    let shown = found_out(&["sequences"], 400, one_sided).expect("a wrong program").to_string();
+    let expected = "\
+the export parts from the model
+  connect(slot 1, generation 2, slot 2, generation 2)
+    slot   prev   next  generation     payload
+       1      0      0           2           0
+       2      0      0           2           0
+  header: stack length 2, link count 2, root 0, generation 2
+  the model answers 0
+  the export answers 0
+  prev of slot 2: model 1, export 0
+";
+    assert_eq!(shown, expected);
+}
+
+#[test]
+fn the_first_failure_is_the_same_on_several_threads() {
+    for (call, what, program) in WRONG.iter().filter(|(call, ..)| sections_of(call) == ["edits"]) {
+        let found = |threads| {
+            let failure = failure(&["edits"], 2_500, threads, &side(*program));
+            failure.unwrap_or_else(|| panic!("{call}: {what}: passes for right")).mismatch.to_string()
+        };
+        assert_eq!(found(1), found(3), "{call}: {what}");
+    }
+}
+
+#[test]
+fn a_side_that_panics_is_shown() {
+    let panics: Wrong = |_, call, _| assert_ne!(*call, Call::IncGeneration, "it does not go on");
+    let shown = found_out(&["edits"], 400, panics).expect("a wrong program").to_string();
+    assert!(shown.contains("  inc_generation()\n"), "{shown}");
+    assert!(shown.contains("the side that panics: assertion"), "{shown}");
+    assert!(shown.contains("it does not go on"), "{shown}");
 }
 
 /// The sentence of demand 3 that a canonical compression of some small arena does not keep once a change is made to it.

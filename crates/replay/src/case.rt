@@ -1,4 +1,4 @@
-// A case: the call's code, the columns with their header, the call's arguments and the slice that it lends, as the numbers of a line.
+// A case: the call's code, the columns with their shape and header, the call's arguments and the slice that it lends, as the numbers of a line.
 ghost use Prim.Native.Nat.{_≤_};
 ghost use Rattle.io.specs.Counts.{Counts};
 use crate::text::write_slots;
@@ -49,26 +49,62 @@ fn words(case: &[u32], from: usize, count: usize) -> [u32; 64]
     column
 }
 
-// Replays a case of c slots, n argument words and m lent words on a copy of its columns; false if no call has its code.
-fn replay_copy(case: &[u32], c: usize, n: usize, m: usize) -> bool
-    requires { ⌜ (c ≤ 12) × (n ≤ 64) × (m ≤ 64) ⌝ }
+// How many words of a column of c are lent: all, but for the last one if the shape names the column.
+fn lent_of(shape: u32, column: u32, c: usize) -> usize
+    ensures { λ r. ⌜ r ≤ c ⌝ }
 {
-    let mut prev = slots(case, 2, c);
-    let mut next = slots(case, 2 + c, c);
-    let mut generation = words(case, 2 + 2 * c, c);
-    let mut payload = words(case, 2 + 3 * c, c);
-    let mut header = words(case, 2 + 4 * c, 4);
-    let mut lent = words(case, 8 + 4 * c + n, m);
+    if shape == column {
+        if 0 < c {
+            return c - 1;
+        }
+    }
+    c
+}
+
+// Replays a case of c slots, n argument words and m lent words on a copy of its columns, of which p, q, g, w and h words are lent; false if no call has its
+// code.
+fn replay_lent(
+    case: &[u32],
+    c: usize,
+    n: usize,
+    m: usize,
+    p: usize,
+    q: usize,
+    g: usize,
+    w: usize,
+    h: usize,
+) -> bool
+    requires { ⌜ (c ≤ 12) × (n ≤ 64) × (m ≤ 64) × (p ≤ c) × (q ≤ c) × (g ≤ c) × (w ≤ c) × (h ≤ 4) ⌝ }
+{
+    let mut prev = slots(case, 3, p);
+    let mut next = slots(case, 3 + c, q);
+    let mut generation = words(case, 3 + 2 * c, g);
+    let mut payload = words(case, 3 + 3 * c, w);
+    let mut header = words(case, 3 + 4 * c, h);
+    let mut lent = words(case, 9 + 4 * c + n, m);
     replay(
         word_at(case, 0),
-        &mut prev[..c],
-        &mut next[..c],
-        &mut generation[..c],
-        &mut payload[..c],
-        &mut header[..4],
-        part(case, 7 + 4 * c, n),
+        &mut prev[..p],
+        &mut next[..q],
+        &mut generation[..g],
+        &mut payload[..w],
+        &mut header[..h],
+        part(case, 8 + 4 * c, n),
         &mut lent[..m],
     )
+}
+
+// Replays a case of c slots, n argument words and m lent words; false if no call has its code.
+fn replay_shape(case: &[u32], c: usize, n: usize, m: usize) -> bool
+    requires { ⌜ (c ≤ 12) × (n ≤ 64) × (m ≤ 64) ⌝ }
+{
+    let shape = word_at(case, 2);
+    let p = lent_of(shape, 1, c);
+    let q = lent_of(shape, 2, c);
+    let g = lent_of(shape, 3, c);
+    let w = lent_of(shape, 4, c);
+    let h = lent_of(shape, 5, 4);
+    replay_lent(case, c, n, m, p, q, g, w, h)
 }
 
 // Replays a case; false if the numbers are none.
@@ -77,18 +113,18 @@ pub fn replay_case(case: &[u32]) -> bool {
     if 12 < c {
         return false;
     }
-    let n = word_at(case, 6 + 4 * c) as usize;
+    let n = word_at(case, 7 + 4 * c) as usize;
     if 64 < n {
         return false;
     }
-    let m = word_at(case, 7 + 4 * c + n) as usize;
+    let m = word_at(case, 8 + 4 * c + n) as usize;
     if 64 < m {
         return false;
     }
-    if case.len() != 8 + 4 * c + n + m {
+    if case.len() != 9 + 4 * c + n + m {
         return false;
     }
-    replay_copy(case, c, n, m)
+    replay_shape(case, c, n, m)
 }
 
 // Makes the call of a code and writes its reply; false if no call has the code.

@@ -1,12 +1,13 @@
 // Replays stored answers of the crate triple_arena 0.15.1 through the exported calls, so that every run of the gate compares with the crate, with no
 // Rust at hand.
 //
-// The file stdin holds the cases, one a line of decimal numbers: the call's code; the number of slots; the columns prev, next, generation and payload;
-// the header; then the argument words and the words of the lent slice, each behind their number. The file stdout holds the answers, a line for each: the
-// number; 1 if a broken slot is named, else 0; the further fields; then the lent slice, the columns and the header as the call left them.
+// The file stdin holds the cases, one a line of decimal numbers: the call's code; the number of slots; the shape, 1 to 5 if that column or the header is
+// lent one word short, else 0; the columns prev, next, generation and payload; the header; then the argument words and the words of the lent slice, each
+// behind their number. The file stdout holds the answers, a line for each: the number; 1 if a broken slot is named, else 0; the further fields; then the
+// lent slice, the columns and the header as the call left them.
 //
-// Both files were made by `cargo run --release -p oracle --bin record` from the crate's own text, and not by this program. oracle/src/bin/record.rs says
-// which cases it takes.
+// Both files were made by `cargo run --release -p oracle --bin record` from the crate's own text and, where it has no answer, from the model in
+// oracle/src/model.rs; not by this program. oracle/src/bin/record.rs says which cases it takes.
 ghost use mathlib.Core.Path.{_≡_};
 ghost use lib.ListN.{length};
 
@@ -21,10 +22,10 @@ use text::line_end;
 use text::read_words;
 
 // Room for all the stored cases.
-fn room() -> [u8; 262144]
-    ensures { λ r. ⌜ 262144 ≡ length r ⌝ }
+fn room() -> [u8; 393216]
+    ensures { λ r. ⌜ 393216 ≡ length r ⌝ }
 {
-    [0; 262144]
+    [0; 393216]
 }
 
 // Replays one line, or writes a question mark if it is no case.

@@ -1,0 +1,381 @@
+//! The sections of the comparison, each a list of jobs. Those that go through every small arena do so from the smallest
+//! on, so that their first failure is the smallest one.
+
+use std::collections::HashSet;
+
+use crate::calls::{each_call, keep, mixed_edits, some_call, some_commands, some_walk};
+use crate::cases;
+use crate::compare::{Counts, Live, Mismatch, Outcome, Product, compare, model_outcome};
+use crate::random::{self, Random, Style};
+use crate::runner::{Jobs, Judge};
+use crate::{Arena, Call, LIMIT, Ptr, demand3};
+
+/// The short form is for every run of the gate, the long one for once.
+#[derive(Clone, Copy, PartialEq, Eq)]
+pub enum Form {
+    Short,
+    Long,
+}
+
+impl Form {
+    /// The value for this form.
+    fn of<T>(self, short: T, long: T) -> T {
+        if self == Self::Short { short } else { long }
+    }
+}
+
+/// A section of the comparison.
+pub struct Section {
+    pub name: &'static str,
+    /// What its cases are
+    pub what: &'static str,
+    /// The numbers that must each come up a hundred times
+    pub numbers: &'static [usize],
+    /// Its jobs in a form
+    pub jobs: fn(Form) -> Jobs,
+}
+
+/// All sections, of all three levels.
+pub const SECTIONS: [Section; 15] = [
+    Section {
+        name: "tuples",
+        what: "the check on every tuple of words of stack length 0 to 3, at two capacities",
+        numbers: &[0, 4, 5, 6, 7, 8, 9, 10, 11],
+        jobs: |_| tuples(3),
+    },
+    Section {
+        name: "shapes",
+        what: "the check on unequal columns, other headers, capacities around 65,535",
+        numbers: &[1],
+        jobs: |_| shapes(),
+    },
+    Section {
+        name: "reading",
+        what: "every reading call with every pointer, every step of every state, on every small arena",
+        numbers: &[0, 12],
+        jobs: |form| every(form.of(4, 5), |a, found| cases::each_reading(a, found)),
+    },
+    Section {
+        name: "steps",
+        what: "steps of any state words, over 65,535 too",
+        numbers: &[0],
+        jobs: |form| every(form.of(3, 4), |a, found| cases::each_wide_step(a, found)),
+    },
+    Section {
+        name: "kept_states",
+        what: "steps of walk states kept while the arena changes under them",
+        numbers: &[0],
+        jobs: |form| kept_states(form.of(4, 5)),
+    },
+    Section {
+        name: "edits",
+        what: "every edit with every pair of pointers on every small arena",
+        numbers: &[0, 12, 13, 14, 15, 16, 100],
+        jobs: |form| every(form.of(4, 5), |a, found| cases::each_edit(a, found)),
+    },
+    Section {
+        name: "pairs",
+        what: "runs of every two commands on every small arena",
+        numbers: &[0],
+        jobs: |form| every(form.of(3, 4), |a, found| cases::each_pair_of_commands(a, found)),
+    },
+    Section {
+        name: "compressions",
+        what: "both compressions of every small arena, with and without reset",
+        numbers: &[0, 14, 100],
+        jobs: |form| every(form.of(5, 6), |a, found| cases::each_compression(a, found)),
+    },
+    Section {
+        name: "demand_3",
+        what: "demand 3 by program on canonical compressions of every small arena, each with three further ones",
+        numbers: &[0, 14, 100],
+        jobs: |form| small_demand_3(form.of(5, 6)),
+    },
+    Section {
+        name: "sequences",
+        what: "sequences of 500 calls on arenas of up to 200 slots, generations around 4,294,967,295",
+        numbers: &[0, 12, 13, 14, 15, 16, 100],
+        jobs: |form| sequences(form.of(5_000, 100_000)),
+    },
+    Section {
+        name: "large_sequences",
+        what: "sequences of 80 calls on arenas of 2,048 to 65,535 slots",
+        numbers: &[0, 12],
+        jobs: |form| large_sequences(form.of(40, 800)),
+    },
+    Section {
+        name: "long_runs",
+        what: "runs of up to 200,000 commands on arenas of up to 65,535 slots",
+        numbers: &[],
+        jobs: |form| long_runs(form.of(60, 1_200)),
+    },
+    Section {
+        name: "single_calls",
+        what: "runs of up to 200 commands against the single calls that they stand for",
+        numbers: &[0, 12, 13],
+        jobs: |form| single_calls(form.of(2_000, 40_000)),
+    },
+    Section {
+        name: "random_compressions",
+        what: "both compressions of random arenas of up to 65,535 slots, with demand 3 by program",
+        numbers: &[0, 100],
+        jobs: |form| random_compressions(form.of(3_000, 60_000)),
+    },
+    Section {
+        name: "damage",
+        what: "each damaged arena through every call, and a step of any state words before the damage",
+        numbers: &[0, 1, 2, 3, 4, 5, 6, 7, 8, 9, 10, 11],
+        jobs: |form| damage(form.of(200_000, 10_000_000)),
+    },
+];
+
+// Small arenas
+
+/// Every call that `each` finds on every arena up to a stack length, each in four dresses.
+fn every(longest: usize, each: fn(&Arena, &mut dyn FnMut(Call))) -> Jobs {
+    on_small_arenas(longest, move |judge, a| each(a, &mut |call| _ = judge.hold(a, &call)))
+}
+
+/// A job for every arena up to a stack length, each in four dresses.
+fn on_small_arenas(longest: usize, job: impl Fn(&mut Judge, &Arena) + Sync + 'static) -> Jobs {
+    let arenas: Vec<Arena> = (0..=longest).flat_map(cases::dressed_arenas).collect();
+    Jobs::new(arenas.len(), move |judge, _, number| job(judge, &arenas[number]))
+}
+
+/// The check on every tuple of words up to a stack length, with no room past the stack and with some.
+fn tuples(longest: usize) -> Jobs {
+    let kinds: Vec<(usize, usize)> = (0..=longest).flat_map(|length| [(length, 0), (length, 1)]).collect();
+    let count = kinds.iter().map(|&(length, _)| cases::slot_tuples(length)).sum();
+    Jobs::new(count, move |judge, _, number| {
+        let mut slots = number;
+        for &(length, room) in &kinds {
+            if slots < cases::slot_tuples(length) {
+                return cases::each_tuple(length, room, slots, |a| _ = judge.hold(a, &Call::Check));
+            }
+            slots -= cases::slot_tuples(length);
+        }
+    })
+}
+
+/// The steps of every state that a walk comes through, on everything that one edit or compression makes of the arena.
+fn kept_states(longest: usize) -> Jobs {
+    on_small_arenas(longest, |judge, a| {
+        let mut later = HashSet::new();
+        let mut changed = |call: Call| _ = later.insert(model_outcome(a, &call).arena);
+        cases::each_edit(a, &mut changed);
+        cases::each_compression(a, &mut changed);
+        cases::each_walked_state(a, |walk| {
+            for later in &later {
+                judge.hold(later, &Call::WalkStep(walk));
+            }
+        });
+    })
+}
+
+/// Demand 3 on every arena up to a stack length, with and without reset.
+fn small_demand_3(longest: usize) -> Jobs {
+    on_small_arenas(longest, |judge, a| {
+        for reset in [0, 1] {
+            judge.hold_to(demand_3, a, &Call::CompressCanonical(reset, vec![9; a.capacity()]));
+        }
+    })
+}
+
+/// Compares a canonical compression and looks at the sentences of demand 3, also after a list of further compressions, one
+/// of them refused.
+fn demand_3(
+    product: Product,
+    before: &Arena,
+    call: &Call,
+    counts: &mut Counts,
+) -> Result<Outcome, Box<Mismatch>> {
+    let first = compare(product, before, call, counts)?;
+    let (Call::CompressCanonical(reset, from), 0 | 100) = (&first.call, first.reply.number) else {
+        return Ok(first);
+    };
+    let not_kept = |sentence: &str| {
+        Err(Mismatch::new("export", before, call, Some(first.clone()), Err(format!("not so: {sentence}"))))
+    };
+    if let Some(sentence) = demand3::broken(before, &first.arena, from) {
+        return not_kept(sentence);
+    }
+    let (mut later, capacity) = (first.arena.clone(), before.capacity());
+    for (reset, places) in [(0, capacity), (*reset, capacity + 1), (1, capacity)] {
+        let further = compare(product, &later, &Call::CompressCanonical(reset, vec![9; places]), counts)?;
+        let Call::CompressCanonical(_, from) = &further.call else { unreachable!() };
+        let accepted = (places == capacity).then_some(&from[..]);
+        if let Some(sentence) = demand3::moved(&first.arena, &further.arena, accepted) {
+            return not_kept(sentence);
+        }
+        later = further.arena;
+    }
+    Ok(first)
+}
+
+// Shapes and damage
+
+/// Around each of some capacities: columns of other lengths, headers of other lengths, other generations.
+fn shapes() -> Jobs {
+    let capacities = [0, 1, LIMIT - 1, LIMIT, LIMIT + 1, LIMIT + 2, 100_000];
+    Jobs::new(4 * capacities.len(), move |judge, r, number| {
+        let capacity = capacities[number / 4];
+        let stack = [0, 1, capacity, capacity + 1][number % 4];
+        let style = Style { free: 4, longest: 8, even: false, scattered: true, closed: 4 };
+        let mut whole = random::whole(r, capacity, stack.min(capacity).min(LIMIT), style);
+        if stack > capacity {
+            whole.header[crate::header::STACK] = stack as u32;
+        }
+        let mut hold = |change: &dyn Fn(&mut Arena)| {
+            let mut a = whole.clone();
+            change(&mut a);
+            judge.hold(&a, &Call::Check);
+        };
+        hold(&|_| {});
+        for length in [capacity + 1, capacity.saturating_sub(1)] {
+            hold(&|a| a.prev.resize(length, 0));
+            hold(&|a| a.next.resize(length, 0));
+            hold(&|a| a.generation.resize(length, 0));
+            hold(&|a| a.payload.resize(length, 0));
+        }
+        for words in [0, 1, 2, 3, 5, 6, 100] {
+            hold(&|a| a.header.resize(words, 2));
+        }
+        for generation in [0, 1, 2, 3, u32::MAX - 1, u32::MAX] {
+            hold(&|a| a.header[crate::header::GENERATION] = generation);
+        }
+    })
+}
+
+/// Damaged arenas, most of them small, a few of 65,535 slots and more, through every call.
+fn damage(arenas: usize) -> Jobs {
+    Jobs::new(arenas, |judge, r, number| {
+        let whole = if number % 20_000 == 10_000 {
+            let capacity = r.pick(&[LIMIT - 1, LIMIT, LIMIT + 1, 100_000]);
+            let style = Style::random(r, LIMIT);
+            random::whole(r, capacity, capacity.min(LIMIT), style)
+        } else {
+            let most = if r.once_in(50) { 300 } else { r.pick(&[2, 5, 12, 40]) };
+            random::any_whole(r, most)
+        };
+        judge.hold(&whole, &Call::WalkStep(some_walk(r, &whole, &[])));
+        let a = random::broken(r, &whole);
+        for call in each_call(r, &a) {
+            judge.hold(&a, &call);
+        }
+    })
+}
+
+// Random arenas
+
+/// An arena of `stack` slots of any style, with a little room past them if the limit leaves it.
+fn some_arena(r: &mut Random, stack: usize) -> Arena {
+    let style = Style::random(r, stack);
+    random::whole(r, stack + (LIMIT - stack).min(3), stack, style)
+}
+
+/// Plays a sequence of calls on an arena, beside a crate arena that lives through all of it.
+fn play(judge: &mut Judge, r: &mut Random, mut a: Arena, calls: usize) {
+    let mut live = Live::new(&a);
+    let mut kept = Vec::new();
+    for _ in 0..calls {
+        let call = some_call(r, &a, &kept);
+        let Some(expected) = judge.hold(&a, &call) else { return };
+        if let Some(mismatch) = live.follow(&a, &call, &expected) {
+            return judge.fail(mismatch);
+        }
+        keep(&mut kept, &call, &expected.reply.words);
+        a = expected.arena;
+        if a.links() == 0 && r.once_in(20) {
+            return;
+        }
+    }
+}
+
+fn sequences(count: usize) -> Jobs {
+    Jobs::new(count, |judge, r, _| {
+        let most = r.pick(&[3, 8, 20, 60, 200]);
+        let a = random::any_whole(r, most);
+        play(judge, r, a, 500);
+    })
+}
+
+fn large_sequences(count: usize) -> Jobs {
+    Jobs::new(count, |judge, r, _| {
+        let stack = r.pick(&[LIMIT, LIMIT, LIMIT - 1, 40_000, 2_048]);
+        let a = some_arena(r, stack);
+        play(judge, r, a, 80);
+    })
+}
+
+fn long_runs(count: usize) -> Jobs {
+    Jobs::new(count, |judge, r, _| {
+        let stack = r.pick(&[40, 500, 2_048, 20_000, LIMIT]);
+        let a = some_arena(r, stack);
+        let most = r.pick(&[1_000, 20_000, 100_000]);
+        let mut commands = some_commands(r, &a, most);
+        if a.links() > 0 && r.once_in(2) {
+            commands.extend(mixed_edits(r, &a, most, false));
+        }
+        let answers = vec![r.word(); commands.len() / 5 + r.below(3)];
+        judge.hold(&a, &Call::Run(commands, answers));
+    })
+}
+
+fn single_calls(count: usize) -> Jobs {
+    Jobs::new(count, |judge, r, _| {
+        let a = random::any_whole(r, 60);
+        let commands = some_commands(r, &a, 200);
+        let answers = vec![99; commands.len() / 5];
+        judge.hold_to(run_is_its_single_calls, &a, &Call::Run(commands, answers));
+    })
+}
+
+/// Compares a run and each single call that it stands for, and holds its answers and its arena to theirs.
+fn run_is_its_single_calls(
+    product: Product,
+    before: &Arena,
+    call: &Call,
+    counts: &mut Counts,
+) -> Result<Outcome, Box<Mismatch>> {
+    let run = compare(product, before, call, counts)?;
+    let (Call::Run(commands, answers), 0) = (&run.call, run.reply.number) else {
+        return Ok(run);
+    };
+    let differs = |what: String| Err(Mismatch::new("export", before, call, Some(run.clone()), Err(what)));
+    let mut alone = before.clone();
+    for (k, (command, &answer)) in commands.chunks_exact(5).zip(answers).enumerate() {
+        let Some(single) = single(command) else { continue };
+        let outcome = compare(product, &alone, &single, counts)?;
+        if outcome.reply.number != answer {
+            return differs(format!("command {k} answers {answer}, its call {}", outcome.reply.number));
+        }
+        alone = outcome.arena;
+    }
+    if run.arena != alone { differs("the single calls leave another arena".to_string()) } else { Ok(run) }
+}
+
+/// The single call that a command of a run stands for; none for another code or a slot over 65,535.
+fn single(command: &[u32]) -> Option<Call> {
+    let ptr = |slot, generation| Some(Ptr { slot: u16::try_from(slot).ok()?, generation });
+    let p = ptr(command[1], command[2])?;
+    Some(match command[0] {
+        1 => Call::Connect(p, ptr(command[3], command[4])?),
+        2 => Call::BreakPrev(p),
+        3 => Call::BreakNext(p),
+        4 => Call::ExchangeNext(p, ptr(command[3], command[4])?),
+        5 => Call::Remove(p),
+        _ => return None,
+    })
+}
+
+fn random_compressions(count: usize) -> Jobs {
+    Jobs::new(count, |judge, r, number| {
+        let most = if number % 100 == 0 { LIMIT } else { r.pick(&[6, 20, 100, 1_000]) };
+        let a = random::any_whole(r, most);
+        let noise = r.word();
+        for reset in [0, 1] {
+            judge.hold(&a, &Call::CompressWith(reset, vec![noise; 4 * a.links() + 1]));
+            judge.hold_to(demand_3, &a, &Call::CompressCanonical(reset, vec![noise as u16; a.capacity()]));
+        }
+    })
+}
