@@ -96,7 +96,9 @@ fn canonical_section() {
     for slots in [2_048, LIMIT] {
         for (kind, arena) in compressed_kinds(slots) {
             let call = Call::CompressCanonical(0, vec![0; slots]);
-            compared(slots, kind, arena.links(), ROUNDS, &arena, call, |held| _ = held.compress(false));
+            compared(slots, kind, arena.links(), ROUNDS, &arena, call, |held| {
+                held.compress(false);
+            });
         }
     }
 }
@@ -109,7 +111,9 @@ fn linear_section() {
     for slots in [LIMIT / 4, LIMIT / 2, LIMIT] {
         let arena = above_free(slots);
         let call = Call::CompressCanonical(0, vec![0; slots]);
-        let compress = |held: &mut Crate| _ = held.compress(false);
+        let compress = |held: &mut Crate| {
+            held.compress(false);
+        };
         let medians = compared(slots, "above free slots", arena.links(), FEW_ROUNDS, &arena, call, compress);
         ours.push(medians.nanos[0].unwrap_or(0.0));
     }
