@@ -113,11 +113,6 @@ impl Counts {
     }
 }
 
-/// How many times the default number of random cases is made: 50 times for a long run, where CHAIN_ARENA_LONG is set.
-pub fn times() -> u64 {
-    if std::env::var_os("CHAIN_ARENA_LONG").is_some() { 50 } else { 1 }
-}
-
 /// Whether the crate's text was found when this was built.
 pub const fn crate_text_found() -> bool {
     cfg!(crate_text)

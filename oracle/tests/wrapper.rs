@@ -3,14 +3,14 @@
 
 use chain_arena::Ptr;
 use oracle::calls::some_call;
-use oracle::compare::{Counts, agrees, model_outcome, times, wrapper_outcome};
+use oracle::compare::{Counts, agrees, model_outcome, wrapper_outcome};
 use oracle::random::{self, Random};
 use oracle::{Arena, LIMIT, cases, model, wrapper};
 
 #[test]
 fn any_call() {
     let mut counts = Counts::default();
-    for seed in 0..400_000 * times() {
+    for seed in 0..400_000 {
         let mut r = Random::new(8_000_000 + seed);
         let a = if r.once_in(4) { random::damaged(&mut r, 12) } else { random::any_whole(&mut r, 12) };
         let call = some_call(&mut r, &a, &[]);
@@ -43,7 +43,7 @@ fn a_chain_is_its_walk() {
     for length in 0..=4 {
         cases::dressed_arenas(length).iter().for_each(hold_chains);
     }
-    for seed in 0..500 * times() {
+    for seed in 0..500 {
         hold_chains(&random::any_whole(&mut Random::new(9_000_000 + seed), 60));
     }
 }
