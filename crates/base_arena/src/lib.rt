@@ -5,13 +5,17 @@ ghost use lib.ListN.{length};
 ghost use Rattle.definitions.specs.Arena.{arena, capacityLimit, linkSlots, freeSlots};
 ghost use Rattle.definitions.specs.Check.{freelistWalk, countsOf};
 ghost use Rattle.base_arena.specs.Shape.{shapeOf};
+use header::CURRENT_GENERATION;
+use header::HEADER_WORDS;
+use header::LINK_COUNT;
+use header::STACK_LENGTH;
 
 // Refusals 1 to 3, or 0.
 pub fn shape(prev: &[u16], next: &[u16], generation: &[u32], payload: &[u32], header: &[u32]) -> u32
     ensures { λ r. ⌜ r ≡ shapeOf capacityLimit (arena (now (prev .entry)) (now (next .entry)) (now (generation .entry)) (now (payload .entry)) (now (header .entry))) ⌝ }
 {
     let capacity = prev.len();
-    if header.len() != 4 {
+    if header.len() != HEADER_WORDS {
         return 1;
     }
     if 65535 < capacity {
@@ -26,13 +30,13 @@ pub fn shape(prev: &[u16], next: &[u16], generation: &[u32], payload: &[u32], he
     if payload.len() != capacity {
         return 1;
     }
-    if header[3] < 2 {
+    if header[CURRENT_GENERATION] < 2 {
         return 2;
     }
-    if capacity < (header[1] as usize) {
+    if capacity < (header[LINK_COUNT] as usize) {
         return 3;
     }
-    if capacity < (header[0] as usize) {
+    if capacity < (header[STACK_LENGTH] as usize) {
         return 3;
     }
     0

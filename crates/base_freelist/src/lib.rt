@@ -12,6 +12,9 @@ ghost use Rattle.definitions.specs.Remove.{threaded, canonicalizeFreelist};
 ghost use Rattle.ptr.specs.Extra.{invalidationNumber};
 ghost use Rattle.base_freelist.specs.Answers.{generationSetNumber};
 ghost use Rattle.base_freelist.specs.Popped.{popped};
+use header::CURRENT_GENERATION;
+use header::ROOT;
+use header::STACK_LENGTH;
 use ptr::Gen;
 use ptr::InvalidationOption;
 
@@ -43,7 +46,7 @@ pub fn set_generation(header: &mut [u32], g: Gen) -> GenerationSet
     if word < 2 {
         return GenerationSet::BelowTwo;
     }
-    header[3] = word;
+    header[CURRENT_GENERATION] = word;
     GenerationSet::Done
 }
 
@@ -53,9 +56,9 @@ pub fn inc_generation(header: &mut [u32]) -> InvalidationOption
     ensures { λ r. ⌜ ((ps ns gs vs : List ℕ) → reply (invalidationNumber r) [] (arena ps ns gs vs (now (header .exit))) []
         ≡ incGeneration largestGeneration (arena ps ns gs vs (now (header .entry))) []) ⌝ }
 {
-    let raised = Gen(header[3]).generational_inc();
+    let raised = Gen(header[CURRENT_GENERATION]).generational_inc();
     let next = raised.generation;
-    header[3] = next.0;
+    header[CURRENT_GENERATION] = next.0;
     InvalidationOption::of(raised.overflow)
 }
 
@@ -150,10 +153,10 @@ pub fn canonicalize_freelist(
     ensures { λ _. ⌜ reply 0 [] (arena (now (prev .exit)) (now (next .exit)) (now (generation .exit)) (now (payload .exit)) (now (header .exit))) []
         ≡ canonicalizeFreelist (arena (now (prev .entry)) (now (next .entry)) (now (generation .entry)) (now (payload .entry)) (now (header .entry))) [] ⌝ }
 {
-    let n = header[0] as usize;
+    let n = header[STACK_LENGTH] as usize;
     let m = highest_link(&*generation, n);
     let root = relist(&mut *next, &*generation, m);
     pop_slots(prev, next, generation, payload, m, n);
-    header[2] = root as u32;
-    header[0] = m as u32;
+    header[ROOT] = root as u32;
+    header[STACK_LENGTH] = m as u32;
 }

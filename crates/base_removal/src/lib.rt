@@ -9,6 +9,10 @@ ghost use Rattle.definitions.specs.Columns.{put};
 ghost use Rattle.definitions.specs.Arena.{arena, capacityLimit, largestGeneration, headerWords, withStackLength, withRoot};
 ghost use Rattle.definitions.specs.Remove.{joined, vacated};
 ghost use Rattle.base_removal.specs.Removal.{Joinable, Stands, Counted, Removable, TakenOut};
+use header::CURRENT_GENERATION;
+use header::LINK_COUNT;
+use header::ROOT;
+use header::STACK_LENGTH;
 use ptr::Gen;
 use ptr::Slot;
 
@@ -67,10 +71,10 @@ pub fn count_removal(header: &mut [u32]) -> bool
     requires { ⌜ (length (now header) ≡ headerWords) × (0 < getD (now header) 1 0) ⌝ }
     ensures { λ r. ⌜ Counted largestGeneration (now (header .entry)) (now (header .exit)) r ⌝ }
 {
-    let raised = Gen(header[3]).generational_inc();
-    let links = header[1];
-    header[3] = raised.generation.0;
-    header[1] = links - 1;
+    let raised = Gen(header[CURRENT_GENERATION]).generational_inc();
+    let links = header[LINK_COUNT];
+    header[CURRENT_GENERATION] = raised.generation.0;
+    header[LINK_COUNT] = links - 1;
     raised.overflow
 }
 
@@ -90,7 +94,7 @@ pub fn pop(
         (withStackLength (s .0 - 1) (now (header .entry))) ⌝ }
 {
     vacate(prev, next, generation, payload, s, Slot(0));
-    header[0] = s.0 as u32 - 1;
+    header[STACK_LENGTH] = s.0 as u32 - 1;
 }
 
 // What a freed slot s points at: the old root, or itself if there was none.
@@ -119,9 +123,9 @@ pub fn free(
         ≡ vacated (arena (now (prev .entry)) (now (next .entry)) (now (generation .entry)) (now (payload .entry)) (now (header .entry))) (s .0)
         (cond (eqb (getD (now (header .entry)) 2 0) 0) (s .0) (getD (now (header .entry)) 2 0)) (withRoot (s .0) (now (header .entry))) ⌝ }
 {
-    let f = freelist_pointer(header[2], s);
+    let f = freelist_pointer(header[ROOT], s);
     vacate(prev, next, generation, payload, s, f);
-    header[2] = s.0 as u32;
+    header[ROOT] = s.0 as u32;
 }
 
 // Takes slot s out of its chain and out of use, and raises the generation. Answers whether that overflowed.
@@ -138,7 +142,7 @@ pub fn take_out(
         (arena (now (prev .entry)) (now (next .entry)) (now (generation .entry)) (now (payload .entry)) (now (header .entry))) (s .0)
         (arena (now (prev .exit)) (now (next .exit)) (now (generation .exit)) (now (payload .exit)) (now (header .exit))) r ⌝ }
 {
-    let n = header[0];
+    let n = header[STACK_LENGTH];
     let last = s.0 as u32;
     join(&mut *prev, &mut *next, s);
     let overflow = count_removal(&mut *header);

@@ -9,6 +9,9 @@ ghost use Rattle.definitions.specs.Check.{namesBack, neighboursFine, allFine};
 ghost use Rattle.chain_arena.specs.Checked.{checkedNumber, brokenSlot, Checks};
 use base_arena::counts;
 use base_arena::shape;
+use header::LINK_COUNT;
+use header::ROOT;
+use header::STACK_LENGTH;
 use ptr::Slot;
 
 // What the check answers: nothing is wrong, a refusal 1 to 10, or 11 with a slot at which rule 11 fails.
@@ -104,8 +107,14 @@ pub fn check(
     if misshapen != 0 {
         return Checked::Refused(misshapen);
     }
-    let n = header[0] as usize;
-    let miscounted = counts(next, generation, n, header[1], header[2] as usize);
+    let n = header[STACK_LENGTH] as usize;
+    let miscounted = counts(
+        next,
+        generation,
+        n,
+        header[LINK_COUNT],
+        header[ROOT] as usize,
+    );
     if miscounted != 0 {
         return Checked::Refused(miscounted);
     }

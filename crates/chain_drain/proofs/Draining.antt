@@ -14,6 +14,7 @@ use Rattle.definitions.specs.Remove.{removed, removedAll, drainItems, overflowI
 use Rattle.definitions.proofs.Count.{in-here}
 use Rattle.definitions.proofs.Slots.{allocated-within}
 use Rattle.definitions.proofs.Tests.{by-test}
+use Rattle.kept.proofs.AsLong.{AsLong, as-long-itself, as-long-too}
 use Rattle.drains.specs.Drainable.{Drainable}
 use Rattle.drains.specs.Report.{itemSlots}
 use Rattle.drains.proofs.Drainable.{drainable-rest}
@@ -21,14 +22,6 @@ use Rattle.drains.proofs.Report.{length-items, items-from, length-drained}
 use Rattle.chain_drain.specs.Items.{ItemDrained, ItemsDrained, itemWords}
 use Rattle.chain_drain.proofs.Listing.{drop-later}
 use Rattle.chain_drain.proofs.Items.{overwritten-front, overwritten-back, overwritten-length}
-
--- column by column as long
-pub record AsLong (a b : Arena) : Type 0 where
-  pub prev : length (a .prev) ≡ length (b .prev)
-  pub next : length (a .next) ≡ length (b .next)
-  pub generation : length (a .generation) ≡ length (b .generation)
-  pub payload : length (a .payload) ≡ length (b .payload)
-  pub header : length (a .header) ≡ length (b .header)
 
 -- the slots of the items that are left to drain
 abbrev pub left : ℕ → ℕ → List ℕ → List ℕ
@@ -53,7 +46,7 @@ module _ (limit top : ℕ) (a₀ : Arena) (old : List ℕ) (items : ℕ) where
         within = omega arith;
         room = room;
         size = refl;
-        long = record { prev = refl; next = refl; generation = refl; payload = refl; header = refl };
+        long = as-long-itself a₀;
         rest = rw all can;
         arena = rw all refl;
         words = rw all refl;
@@ -144,18 +137,11 @@ module _ (limit top : ℕ) (a₀ : Arena) (old : List ℕ) (items : ℕ) (a : Ar
       pub draining-goes-on : AsLong b a → Draining limit top a₀ old items b words (item + 1) (cond (eqb known 0) (cond over (item + 1) 0) known)
       unfolding removedAll drainItems overflowItem
       draining-goes-on long =
-          let was = d .long in
           record {
             within = omega arith;
             room = rw size (d .room);
             size = size ∙ d .size;
-            long = record {
-              prev = long .prev ∙ was .prev;
-              next = long .next ∙ was .next;
-              generation = long .generation ∙ was .generation;
-              payload = long .payload ∙ was .payload;
-              header = long .header ∙ was .header;
-            };
+            long = as-long-too long (d .long);
             rest = rw (same, gone) (drainable-rest limit top a s others can);
             arena = rw (same, gone) (rw here at (d .arena));
             words = rw (added, same, gone, past) (append-assoc (take (5 * item) new) (itemWords a s) _ ∙ (rw here at (d .words)));

@@ -18,6 +18,7 @@ use chain_traits::GotLinkNoGen;
 use chain_traits::get_link_no_gen;
 use chain_traits::slot_at;
 use chain_traits::stale;
+use header::STACK_LENGTH;
 use links::InvalidationResult;
 use ptr::Ptr;
 use ptr::Slot;
@@ -59,7 +60,7 @@ pub fn connect(
         ≡ connect (arena (now (prev .entry)) (now (next .entry)) (now (generation .entry)) (now (payload .entry)) (now (header .entry)))
         (pointerOf «p_prev») (pointerOf «p_next») [] ⌝ }
 {
-    let n = header[0] as usize;
+    let n = header[STACK_LENGTH] as usize;
     if stale(generation, n, p_prev) {
         return Edited::Stale;
     }
@@ -102,7 +103,7 @@ pub fn break_side(
     ensures { λ r. ⌜ editedReply r (arena (now (prev .exit)) (now (next .exit)) (now (generation .entry)) (now (payload .entry)) (now (header .entry)))
         ≡ breakSide (arena (now (prev .entry)) (now (next .entry)) (now (generation .entry)) (now (payload .entry)) (now (header .entry))) (pointerOf p) after ⌝ }
 {
-    let n = header[0] as usize;
+    let n = header[STACK_LENGTH] as usize;
     if stale(generation, n, p) {
         return Edited::Stale;
     }
@@ -173,7 +174,7 @@ pub fn exchange_next(
         ≡ exchangeNext (arena (now (prev .entry)) (now (next .entry)) (now (generation .entry)) (now (payload .entry)) (now (header .entry)))
         (pointerOf p0) (pointerOf p1) [] ⌝ }
 {
-    let n = header[0] as usize;
+    let n = header[STACK_LENGTH] as usize;
     if stale(generation, n, p0) {
         return Edited::Stale;
     }

@@ -13,6 +13,8 @@ ghost use Rattle.chain_iterators.specs.Walk.{walkOf, steppedOf, startRep
 use chain_traits::slot_at;
 use chain_traits::stale;
 use chain_traits::word_at;
+use header::LINK_COUNT;
+use header::STACK_LENGTH;
 use ptr::Ptr;
 use ptr::Slot;
 
@@ -79,14 +81,14 @@ pub fn advancer_chain(
     ensures { λ r. ⌜ startReply r (arena (now (prev .entry)) (now (next .entry)) (now (generation .entry)) (now (payload .entry)) (now (header .entry))) []
         ≡ walkStart (arena (now (prev .entry)) (now (next .entry)) (now (generation .entry)) (now (payload .entry)) (now (header .entry))) (pointerOf p) [] ⌝ }
 {
-    if stale(generation, header[0] as usize, p) {
+    if stale(generation, header[STACK_LENGTH] as usize, p) {
         return Started::Stale;
     }
     Started::At(ChainPtrAdvancer {
         init: p.inx.0 as u32,
         ptr: p.inx.0 as u32,
         switch: 0,
-        max_advances: header[1],
+        max_advances: header[LINK_COUNT],
     })
 }
 
@@ -124,7 +126,10 @@ impl ChainPtrAdvancer {
         }
         let ahead = slot_at(next, here).0 as u32;
         if ahead == 0 {
-            return self.moved(prev_of(prev, generation, header[0] as usize, self.init), 1);
+            return self.moved(
+                prev_of(prev, generation, header[STACK_LENGTH] as usize, self.init),
+                1,
+            );
         }
         if ahead == self.init {
             return self.moved(0, self.switch);
@@ -151,7 +156,7 @@ impl ChainPtrAdvancer {
                 state: self,
             };
         }
-        if !is_link(generation, header[0] as usize, self.ptr) {
+        if !is_link(generation, header[STACK_LENGTH] as usize, self.ptr) {
             return Advanced {
                 slot: 0,
                 generation: 0,

@@ -14,6 +14,7 @@ use Rattle.definitions.specs.Check.{WellFormed}
 use Rattle.definitions.specs.Columns.{slotsFrom, written}
 use Rattle.definitions.specs.Reply.{reply}
 use Rattle.definitions.specs.Run.{Command, commandAt, commandWords, applied, answersOf, run}
+use Rattle.kept.proofs.AsLong.{AsLong, as-long-itself, as-long-too}
 use Rattle.kept.proofs.Runs.{run-goes-on, answers-go-on, an-answer-each, applied-keeps}
 use Rattle.chain_run.specs.Commands.{Applied, AllApplied}
 
@@ -26,14 +27,6 @@ one-more ws i = rw (add-one i, slots-snoc 0 i, map-append, zero-add i) refl
 
 how-many : (ws : List ℕ) (i : ℕ) → length (firstCommands ws i) ≡ i
 how-many ws i = length-map (slotsFrom 0 i) (commandAt ws) ∙ length-slots 0 i
-
--- column by column as long
-pub record AsLong (a b : Arena) : Type 0 where
-  pub prev : length (a .prev) ≡ length (b .prev)
-  pub next : length (a .next) ≡ length (b .next)
-  pub generation : length (a .generation) ≡ length (b .generation)
-  pub payload : length (a .payload) ≡ length (b .payload)
-  pub header : length (a .header) ≡ length (b .header)
 
 -- after i commands of the words ws on the arena a₀, with the answers told
 pub record Going (top : ℕ) (a₀ : Arena) (ws old : List ℕ) (i : ℕ) (a : Arena) (told : List ℕ) : Type 0 where
@@ -51,7 +44,7 @@ module _ (top : ℕ) (a₀ : Arena) (ws old : List ℕ) where
     arena = refl;
     answers = refl;
     many = refl;
-    long = record { prev = refl; next = refl; generation = refl; payload = refl; header = refl };
+    long = as-long-itself a₀;
   }
 
   -- each arena on the way is well formed
@@ -62,7 +55,6 @@ module _ (top : ℕ) (a₀ : Arena) (ws old : List ℕ) where
       → c ≡ commandAt ws i → Applied top a c r b → AsLong b a → Going top a₀ ws old (i + 1) b (set told i r)
   unfolding applied answersOf
   goes-on i a told c r b g l room e s m =
-      let w = g .long in
       let before = answersOf top a₀ (firstCommands ws i) in
       let count : length before ≡ i = an-answer-each top a₀ (firstCommands ws i) ∙ how-many ws i in
       record {
@@ -72,13 +64,7 @@ module _ (top : ℕ) (a₀ : Arena) (ws old : List ℕ) where
             rw (one-more ws i, answers-go-on top a₀ (firstCommands ws i) (commandAt ws i ∷ []), ← g .arena, ← e, ← s .answer, g .answers)
             (written-more before old i (r ∷ []) count (omega arith));
         many = length-set told i r ∙ g .many;
-        long = record {
-          prev = m .prev ∙ w .prev;
-          next = m .next ∙ w .next;
-          generation = m .generation ∙ w .generation;
-          payload = m .payload ∙ w .payload;
-          header = m .header ∙ w .header;
-        };
+        long = as-long-too m (g .long);
       }
 
   pub ends : (i : ℕ) (a : Arena) (told : List ℕ) → Going top a₀ ws old i a told → i ≡ length ws / commandWords → AllApplied top a₀ ws old a told

@@ -1,19 +1,16 @@
 // A run of edits on an arena that passed the check: 'Command: code, two slots each followed by its generation'.
 ghost use mathlib.Core.Path.{_≡_};
-ghost use mathlib.Core.List.{List};
-ghost use Prim.Native.Nat.{ℕ, _+_, _*_, _/_, _≤_};
+ghost use Prim.Native.Nat.{_+_, _*_, _/_, _≤_};
 ghost use lib.ListN.{length};
-ghost use Rattle.definitions.specs.Arena.{Arena, arena, capacityLimit, largestGeneration};
+ghost use Rattle.definitions.specs.Arena.{arena, capacityLimit, largestGeneration};
 ghost use Rattle.definitions.specs.Check.{WellFormed};
 ghost use Rattle.definitions.specs.Run.{commandWords, commandAt, run};
-ghost use Rattle.links.specs.Links.{removalReply};
 ghost use Rattle.chain_traits.specs.Read.{pointerOf};
 ghost use Rattle.chain_run.specs.Commands.{widePointer, narrowed, commandOf, Applied, AllApplied, ranNumber, ranReply};
 use chain_edits::break_side;
 use chain_edits::connect;
 use chain_edits::exchange_next;
 use chain_edits::remove;
-use links::InvalidationResult;
 use ptr::Gen;
 use ptr::Ptr;
 use ptr::Slot;
@@ -73,17 +70,6 @@ pub fn command_at(commands: &[u32], i: usize) -> Command
     }
 }
 
-// Document 01's number for the answer of a removal.
-pub fn removal_number(r: InvalidationResult) -> u32
-    ensures { λ k. ⌜ ((a : Arena) (l : List ℕ) → k ≡ removalReply r a l .number) ⌝ }
-{
-    match r {
-        InvalidationResult::Success(_) => 0,
-        InvalidationResult::GenerationOverflow(_) => 100,
-        InvalidationResult::InvalidPtr => 12,
-    }
-}
-
 // One command. Answers 0, 100, 12, 13, or 16 for another code.
 pub fn apply(
     prev: &mut [u16],
@@ -115,7 +101,7 @@ pub fn apply(
     } else {
         match code {
             4 => exchange_next(prev, next, &*generation, &*payload, &*header, p, q).number(),
-            5 => removal_number(remove(prev, next, generation, payload, header, p)),
+            5 => remove(prev, next, generation, payload, header, p).number(),
             _ => 16,
         }
     }

@@ -9,6 +9,7 @@ ghost use Rattle.definitions.specs.Check.{verdict};
 ghost use Rattle.definitions.specs.Read.{pointer, getLink, getLinkNoGen, neighbors};
 ghost use Rattle.definitions.proofs.Shaped.{Shaped};
 ghost use Rattle.chain_traits.specs.Read.{pointerOf, staleIn, linkReply, linkNoGenReply};
+use header::STACK_LENGTH;
 use links::Link;
 use links::LinkNoGen;
 use ptr::Gen;
@@ -114,7 +115,7 @@ pub fn get_link_no_gen(
     ensures { λ r. ⌜ linkNoGenReply r (arena (now (prev .entry)) (now (next .entry)) (now (generation .entry)) (now (payload .entry)) (now (header .entry))) []
         ≡ getLinkNoGen (arena (now (prev .entry)) (now (next .entry)) (now (generation .entry)) (now (payload .entry)) (now (header .entry))) (pointerOf p) [] ⌝ }
 {
-    if stale(generation, header[0] as usize, p) {
+    if stale(generation, header[STACK_LENGTH] as usize, p) {
         return GotLinkNoGen::Stale;
     }
     GotLinkNoGen::Found(LinkNoGen {
@@ -138,7 +139,7 @@ pub fn are_neighbors(
     ensures { λ r. ⌜ r ≡ neighbors (arena (now (prev .entry)) (now (next .entry)) (now (generation .entry)) (now (payload .entry)) (now (header .entry)))
         (pointerOf «p_prev») (pointerOf «p_next») ⌝ }
 {
-    let n = header[0] as usize;
+    let n = header[STACK_LENGTH] as usize;
     if stale(generation, n, p_prev) {
         return false;
     }

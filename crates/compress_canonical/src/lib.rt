@@ -21,6 +21,10 @@ use base_removal::put_at;
 use chain_traits::slot_at;
 use compress_with::fill_generation;
 use compress_with::renew_generation;
+use header::CURRENT_GENERATION;
+use header::LINK_COUNT;
+use header::ROOT;
+use header::STACK_LENGTH;
 use ptr::InvalidationOption;
 use ptr::Slot;
 
@@ -306,7 +310,7 @@ fn lay_out(
     ensures { λ _. ⌜ LaidIn (arena (now (prev .entry)) (now (next .entry)) (now (generation .entry)) (now (payload .entry)) (now (header .entry))) (now («where_from» .entry))
         (lent (now (prev .exit)) (now (next .exit)) (now (payload .exit)) (now («where_from» .exit))) ⌝ }
 {
-    let n = header[0] as usize;
+    let n = header[STACK_LENGTH] as usize;
     mark_links(&mut where_from[..n], &generation[..n]);
     lay_chains(
         &mut prev[..n],
@@ -328,13 +332,13 @@ fn shrink(
     ensures { λ _. ⌜ arena (now (prev .exit)) (now (next .exit)) (now (generation .exit)) (now (payload .exit)) (now (header .exit))
         ≡ shrunk (arena (now (prev .entry)) (now (next .entry)) (now (generation .entry)) (now (payload .entry)) (now (header .entry))) ⌝ }
 {
-    let n = header[0] as usize;
-    let links = header[1];
+    let n = header[STACK_LENGTH] as usize;
+    let links = header[LINK_COUNT];
     let m = links as usize;
-    fill_generation(&mut *generation, m, header[3]);
+    fill_generation(&mut *generation, m, header[CURRENT_GENERATION]);
     pop_slots(prev, next, generation, payload, m, n);
-    header[2] = 0;
-    header[0] = links;
+    header[ROOT] = 0;
+    header[STACK_LENGTH] = links;
 }
 
 // Canonical compression of an arena that passed the check: chain after chain, each on consecutive slots in next order.

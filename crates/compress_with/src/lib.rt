@@ -15,6 +15,10 @@ ghost use Rattle.compress_with.specs.Answers.{compressedNumber};
 ghost use Rattle.compress_with.specs.Moves.{Renewed, Numbered, Named, newName, Movable, carried, Compressible};
 use base_freelist::inc_generation;
 use base_freelist::pop_slots;
+use header::CURRENT_GENERATION;
+use header::LINK_COUNT;
+use header::ROOT;
+use header::STACK_LENGTH;
 use ptr::Gen;
 use ptr::InvalidationOption;
 
@@ -43,10 +47,10 @@ pub fn renew_generation(header: &mut [u32], reset: bool) -> InvalidationOption
 {
     if reset {
         let two = Gen::TWO;
-        header[3] = two.0;
+        header[CURRENT_GENERATION] = two.0;
         return InvalidationOption::Success;
     }
-    if header[1] != 0 {
+    if header[LINK_COUNT] != 0 {
         return inc_generation(header);
     }
     InvalidationOption::Success
@@ -204,13 +208,13 @@ pub fn compress_with(
     ensures { λ r. ⌜ reply (compressedNumber r) [] (arena (now (prev .exit)) (now (next .exit)) (now (generation .exit)) (now (payload .exit)) (now (header .exit))) (now (report .exit))
         ≡ compressWith largestGeneration reset (arena (now (prev .entry)) (now (next .entry)) (now (generation .entry)) (now (payload .entry)) (now (header .entry))) (now (report .entry)) ⌝ }
 {
-    let n = header[0] as usize;
-    let links = header[1];
+    let n = header[STACK_LENGTH] as usize;
+    let links = header[LINK_COUNT];
     if report.len() < 4 * links as usize {
         return Compressed::NoRoom;
     }
     let renewed = renew_generation(&mut *header, reset);
-    let new = header[3];
+    let new = header[CURRENT_GENERATION];
     compress_columns(
         prev,
         next,
@@ -221,7 +225,7 @@ pub fn compress_with(
         links as usize,
         new,
     );
-    header[2] = 0;
-    header[0] = links;
+    header[ROOT] = 0;
+    header[STACK_LENGTH] = links;
     Compressed::Done(renewed)
 }

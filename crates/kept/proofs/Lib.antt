@@ -5,3 +5,4 @@ pub mod Removal
 pub mod Runs
 pub mod CanonicalFreelist
 pub mod Drain
+pub mod AsLong

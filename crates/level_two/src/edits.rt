@@ -184,23 +184,24 @@ pub extern "C" fn chain_arena_exchange_next(
 fn remove_result(removed: InvalidationResult) -> RemoveResult
     ensures { λ r. ⌜ (r .broken ≡ 0) × ((a : Arena) (l : List ℕ) → reply (r .number) (r .prev ∷ r .next ∷ r .payload ∷ []) a l ≡ removalReply removed a l) ⌝ }
 {
+    let number = removed.number();
     match removed {
         InvalidationResult::Success(l) => RemoveResult {
-            number: 0,
+            number: number,
             broken: 0,
             prev: l.prev.0 as u32,
             next: l.next.0 as u32,
             payload: l.t,
         },
         InvalidationResult::GenerationOverflow(l) => RemoveResult {
-            number: 100,
+            number: number,
             broken: 0,
             prev: l.prev.0 as u32,
             next: l.next.0 as u32,
             payload: l.t,
         },
         InvalidationResult::InvalidPtr => RemoveResult {
-            number: 12,
+            number: number,
             broken: 0,
             prev: 0,
             next: 0,

@@ -1,5 +1,9 @@
 // Links as they are answered (chain/links.rs): payload and interlinks, with and without generations.
 ghost use mathlib.Core.Path.{_≡_};
+ghost use mathlib.Core.List.{List};
+ghost use Prim.Native.Nat.{ℕ};
+ghost use Rattle.definitions.specs.Arena.{Arena};
+ghost use Rattle.links.specs.Links.{removalReply};
 use ptr::Ptr;
 use ptr::Slot;
 
@@ -39,4 +43,17 @@ pub enum InvalidationResult {
     Success(LinkNoGen),
     GenerationOverflow(LinkNoGen),
     InvalidPtr,
+}
+
+impl InvalidationResult {
+    // Document 01's number for the answer.
+    pub fn number(self) -> u32
+        ensures { λ k. ⌜ ((a : Arena) (l : List ℕ) → k ≡ removalReply self a l .number) ⌝ }
+    {
+        match self {
+            InvalidationResult::Success(_) => 0,
+            InvalidationResult::GenerationOverflow(_) => 100,
+            InvalidationResult::InvalidPtr => 12,
+        }
+    }
 }

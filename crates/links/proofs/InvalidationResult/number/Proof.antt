@@ -1,8 +1,8 @@
--- `chain_run::removal_number` meets its contract. Each case has its number by the definition. Assumes nothing.
+-- `links::InvalidationResult::number` meets its contract. Each case has its number by the definition. Assumes nothing.
 use mathlib.Core.Path.{refl}
 use borrow.Author.Needs.{needs}
-use Rattle.chain_run.proofs.removal_number.Statement.{statement}
-use Rattle.chain_run.proofs.removal_number.Tie as tie
+use Rattle.links.proofs.InvalidationResult.number.Statement.{statement}
+use Rattle.links.proofs.InvalidationResult.number.Tie as tie
 
 enum-told : tie.Need-enum-told
 enum-told c = search needs
@@ -22,6 +22,6 @@ returns-2 c = λ a l. rw (c .enum-told2 .given .1) refl
 returns-3 : tie.Need-returns-3
 returns-3 c = λ a l. rw (c .enum-told3 .given .1) refl
 
-pub removal-number-spec : {M : Type 1} → statement M
-removal-number-spec =
+pub number-spec : {M : Type 1} → statement M
+number-spec =
     tie.close (tie.spec enum-told enum-told-2 enum-told-3 returns returns-2 returns-3)
