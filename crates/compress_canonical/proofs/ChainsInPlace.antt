@@ -20,7 +20,7 @@ use Rattle.compress_canonical.specs.Lent.{Lent}
 use Rattle.compress_canonical.specs.Held.{Held, Occupied, Rooted}
 use Rattle.compress_canonical.specs.Steps.{Layable, InChain, ChainLaid, Ready, AllLaid, Larger}
 use Rattle.compress_canonical.proofs.InPlace.{Exchangeable}
-use Rattle.compress_canonical.proofs.LinkInPlace.{exchangeable, place-left}
+use Rattle.compress_canonical.proofs.LinkInPlace.{exchangeable, place-left, place-small}
 
 -- a is being laid out and is between two chains; so many links are in place, and the lowest link that waits is in slot found, 0 if none waits
 pub record Waits (a : Arena) (c : Lent) (laid found : ℕ) : Type 0 where
@@ -181,6 +181,10 @@ module _ {old c : Lent} {laid found : ℕ} (laying : LayingOut old c laid found)
 
       pub some-chain : ((a : Arena) × Ready a old) → (a : Arena) × (l : Laying) × InChain a l (l .i) start c laid
       some-chain (a, ready) = let waits = laying .waits a ready in (a, waits .state, chain-begins a c laid found waits d start (is a waits))
+
+      -- there is a slot for its first link
+      pub some-place : ((a : Arena) × Ready a old) → laid + 1 ≤ capacityLimit
+      some-place ready = let chain = some-chain ready in place-small (chain .0) (chain .1) (chain .1 .i) start c laid (chain .2)
 
       module _ (left : Lent) (now : ℕ)
           (laid-out : (a : Arena) (l : Laying) → InChain a l (l .i) start c laid → ChainLaid a l (layChain (stackLength (l .slots)) (l .i) start l) laid left now) where

@@ -29,7 +29,7 @@ const WORDS: usize = 64;
 const SEEDS: u64 = 400_000;
 
 /// How many cases of a call with a number are kept at least for each mark, and how many if the check refuses the arena.
-const KEPT: usize = 12;
+const KEPT: usize = 14;
 const KEPT_BROKEN: usize = 3;
 
 fn main() {

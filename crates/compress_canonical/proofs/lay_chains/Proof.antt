@@ -6,8 +6,7 @@ use native.Mathlib.Omega.{arith}
 use borrow.Author.Needs.{needs}
 use lib.ListN.{length}
 use Rattle.compress_canonical.specs.Lent.{lent, AsLong}
-use Rattle.compress_canonical.proofs.LinkInPlace.{place-small}
-use Rattle.compress_canonical.proofs.ChainsInPlace.{LayingOut, laying-starts, larger-within, ready-small, some-rooted, some-chain, some-more, goes-on, ends}
+use Rattle.compress_canonical.proofs.ChainsInPlace.{LayingOut, laying-starts, larger-within, ready-small, some-rooted, some-chain, some-place, some-more, goes-on, ends}
 use Rattle.compress_canonical.proofs.lay_chains.Statement.{statement}
 use Rattle.compress_canonical.proofs.lay_chains.Tie as tie
 
@@ -28,14 +27,10 @@ start-of-requires : tie.Need-start-of-requires Inv-loop μ-loop
 start-of-requires c κs = some-rooted (c .before .before .before .loop .inv .1) (c .before .if1 .taken) (c .before .before .before .before .before .before .before .before .before .before .pre)
 
 add-t15 : tie.Need-add-t15 Inv-loop μ-loop
-add-t15 c =
-    let chain = some-chain (c .before .before .before .before .loop .inv .1) (c .before .before .if1 .taken) _ (c .start-of .ensures) (c .before .before .before .before .before .before .before .before .before .before .before .pre) in
-    omega (arith, place-small (chain .0) (chain .1) (chain .1 .i) _ _ _ (chain .2))
+add-t15 c = omega (arith, some-place (c .before .before .before .before .loop .inv .1) (c .before .before .if1 .taken) _ (c .start-of .ensures) (c .before .before .before .before .before .before .before .before .before .before .before .pre))
 
 cast-t16 : tie.Need-cast-t16 Inv-loop μ-loop
-cast-t16 c =
-    let chain = some-chain (c .before .before .before .before .loop .inv .1) (c .before .before .if1 .taken) _ (c .start-of .ensures) (c .before .before .before .before .before .before .before .before .before .before .before .pre) in
-    omega (arith, place-small (chain .0) (chain .1) (chain .1 .i) _ _ _ (chain .2))
+cast-t16 c = omega (arith, some-place (c .before .before .before .before .loop .inv .1) (c .before .before .if1 .taken) _ (c .start-of .ensures) (c .before .before .before .before .before .before .before .before .before .before .before .pre))
 
 lay-chain-requires : tie.Need-lay-chain-requires Inv-loop μ-loop
 lay-chain-requires c κs = (refl, some-chain (c .before .before .before .before .before .before .before .before .loop .inv .1) (c .before .before .before .before .before .before .if1 .taken) _ (c .before .before .before .before .start-of .ensures) (c .before .before .before .before .before .before .before .before .before .before .before .before .before .before .before .pre))
