@@ -5,34 +5,16 @@ ghost use mathlib.Core.List.{List};
 ghost use Prim.Native.Nat.{ℕ, _-_, _≤_, _<_};
 ghost use lib.Dec.{eqb};
 ghost use lib.ListN.{length, getD};
-ghost use Rattle.definitions.specs.Columns.{put};
 ghost use Rattle.definitions.specs.Arena.{arena, capacityLimit, largestGeneration, headerWords, withStackLength, withRoot};
 ghost use Rattle.definitions.specs.Remove.{joined, vacated};
 ghost use Rattle.base_removal.specs.Removal.{Joinable, Stands, Counted, Removable, TakenOut};
+use columns::put_at;
 use header::CURRENT_GENERATION;
 use header::LINK_COUNT;
 use header::ROOT;
 use header::STACK_LENGTH;
 use ptr::Gen;
 use ptr::Slot;
-
-// Writes v at slot s of a link column.
-pub fn set_at(column: &mut [u16], s: Slot, v: Slot)
-    requires { ⌜ (0 < s .0) × (s .0 ≤ length (now column)) ⌝ }
-    ensures { λ _. ⌜ now (column .exit) ≡ put (now (column .entry)) (s .0) (v .0) ⌝ }
-{
-    column[s.0 as usize - 1] = v.0;
-}
-
-// Writes v at slot s of a link column, if there is such a slot: 0 is none.
-pub fn put_at(column: &mut [u16], s: Slot, v: Slot)
-    requires { ⌜ s .0 ≤ length (now column) ⌝ }
-    ensures { λ _. ⌜ now (column .exit) ≡ put (now (column .entry)) (s .0) (v .0) ⌝ }
-{
-    if s.0 != 0 {
-        set_at(column, s, v);
-    }
-}
 
 // Joins the neighbours of slot s: they name each other.
 pub fn join(prev: &mut [u16], next: &mut [u16], s: Slot)

@@ -21,8 +21,8 @@ use base_removal::take_out;
 use chain_iterators::ChainPtrAdvancer;
 use chain_iterators::Started;
 use chain_iterators::advancer_chain;
-use chain_traits::slot_at;
-use chain_traits::word_at;
+use columns::slot_at;
+use columns::word_at;
 use ptr::Ptr;
 use ptr::Slot;
 

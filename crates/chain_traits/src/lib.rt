@@ -1,7 +1,7 @@
 // Reading links and neighbours (chain/chain_traits.rs) of an arena that passed the check.
 ghost use mathlib.Core.Path.{_≡_};
 ghost use mathlib.Core.List.{[]};
-ghost use Prim.Native.Nat.{_≤_, _<_};
+ghost use Prim.Native.Nat.{_≤_};
 ghost use lib.ListN.{length};
 ghost use Rattle.definitions.specs.Columns.{at};
 ghost use Rattle.definitions.specs.Arena.{arena, capacityLimit};
@@ -9,6 +9,8 @@ ghost use Rattle.definitions.specs.Check.{verdict};
 ghost use Rattle.definitions.specs.Read.{pointer, getLink, getLinkNoGen, neighbors};
 ghost use Rattle.definitions.proofs.Shaped.{Shaped};
 ghost use Rattle.chain_traits.specs.Read.{pointerOf, staleIn, linkReply, linkNoGenReply};
+use columns::slot_at;
+use columns::word_at;
 use header::STACK_LENGTH;
 use links::Link;
 use links::LinkNoGen;
@@ -26,22 +28,6 @@ pub enum GotLink {
 pub enum GotLinkNoGen {
     Found(LinkNoGen),
     Stale,
-}
-
-// The slot that the column names at slot s.
-pub fn slot_at(column: &[u16], s: Slot) -> Slot
-    requires { ⌜ (0 < s .0) × (s .0 ≤ length (now column)) ⌝ }
-    ensures { λ r. ⌜ r .0 ≡ at (now (column .entry)) (s .0) ⌝ }
-{
-    Slot(column[s.0 as usize - 1])
-}
-
-// The word of the column at slot s.
-pub fn word_at(column: &[u32], s: Slot) -> u32
-    requires { ⌜ (0 < s .0) × (s .0 ≤ length (now column)) ⌝ }
-    ensures { λ r. ⌜ r ≡ at (now (column .entry)) (s .0) ⌝ }
-{
-    column[s.0 as usize - 1]
 }
 
 // The pointer to slot s with the generation that stands there; for no neighbour, slot 0, that is 0.

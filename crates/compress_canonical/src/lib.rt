@@ -17,8 +17,8 @@ ghost use Rattle.compress_canonical.specs.Held.{Occupied, Rooted, Marked
 ghost use Rattle.compress_canonical.specs.Steps.{InChain, LinkLaid, ChainLaid, Ready, AllLaid, Larger, Stacked, LaidIn};
 ghost use Rattle.compress_canonical.specs.Shrunk.{Shrinkable, shrunk};
 use base_freelist::pop_slots;
-use base_removal::put_at;
-use chain_traits::slot_at;
+use columns::put_at;
+use columns::slot_at;
 use compress_with::fill_generation;
 use compress_with::renew_generation;
 use header::CURRENT_GENERATION;

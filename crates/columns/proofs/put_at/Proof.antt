@@ -1,9 +1,9 @@
--- `base_removal::put_at` meets its contract. `put` writes nothing at slot 0. Assumes nothing.
+-- `columns::put_at` meets its contract. `put` writes nothing at slot 0. Assumes nothing.
 use mathlib.Core.Path.{refl}
 use borrow.Author.Needs.{needs}
 use Rattle.definitions.specs.Columns.{put}
-use Rattle.base_removal.proofs.put_at.Statement.{statement}
-use Rattle.base_removal.proofs.put_at.Tie as tie
+use Rattle.columns.proofs.put_at.Statement.{statement}
+use Rattle.columns.proofs.put_at.Tie as tie
 
 set-at-requires : tie.Need-set-at-requires
 set-at-requires c κs = search needs

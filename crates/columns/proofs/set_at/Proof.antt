@@ -1,9 +1,9 @@
--- `base_removal::set_at` meets its contract. The place of slot s is s - 1. Assumes nothing.
+-- `columns::set_at` meets its contract. The place of slot s is s - 1. Assumes nothing.
 use native.Mathlib.Omega.{arith}
 use borrow.Author.Needs.{needs}
 use Rattle.definitions.proofs.Columns.{put-place}
-use Rattle.base_removal.proofs.set_at.Statement.{statement}
-use Rattle.base_removal.proofs.set_at.Tie as tie
+use Rattle.columns.proofs.set_at.Statement.{statement}
+use Rattle.columns.proofs.set_at.Tie as tie
 
 cast-column : tie.Need-cast-column
 cast-column c = search needs

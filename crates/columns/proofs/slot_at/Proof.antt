@@ -1,9 +1,9 @@
--- `chain_traits::slot_at` meets its contract: slot s is at place s - 1 of a column. Assumes nothing.
+-- `columns::slot_at` meets its contract: slot s is at place s - 1 of a column. Assumes nothing.
 use native.Mathlib.Omega.{arith}
 use borrow.Author.Needs.{needs}
 use Rattle.definitions.proofs.Columns.{at-place}
-use Rattle.chain_traits.proofs.slot_at.Statement.{statement}
-use Rattle.chain_traits.proofs.slot_at.Tie as tie
+use Rattle.columns.proofs.slot_at.Statement.{statement}
+use Rattle.columns.proofs.slot_at.Tie as tie
 
 cast-t3 : tie.Need-cast-t3
 cast-t3 c = search needs

@@ -1,9 +1,9 @@
--- `chain_traits::word_at` meets its contract: slot s is at place s - 1 of a column. Assumes nothing.
+-- `columns::word_at` meets its contract: slot s is at place s - 1 of a column. Assumes nothing.
 use native.Mathlib.Omega.{arith}
 use borrow.Author.Needs.{needs}
 use Rattle.definitions.proofs.Columns.{at-place}
-use Rattle.chain_traits.proofs.word_at.Statement.{statement}
-use Rattle.chain_traits.proofs.word_at.Tie as tie
+use Rattle.columns.proofs.word_at.Statement.{statement}
+use Rattle.columns.proofs.word_at.Tie as tie
 
 cast-result : tie.Need-cast-result
 cast-result c = search needs
