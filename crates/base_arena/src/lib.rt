@@ -2,7 +2,8 @@
 ghost use mathlib.Core.Path.{_≡_};
 ghost use Prim.Native.Nat.{_+_, _≤_};
 ghost use lib.ListN.{length};
-ghost use Rattle.definitions.specs.Arena.{arena, capacityLimit, linkSlots, freeSlots};
+ghost use Rattle.definitions.specs.Arena.{capacityLimit, linkSlots, freeSlots};
+ghost use Rattle.definitions.specs.Lent.{atEntry};
 ghost use Rattle.definitions.specs.Check.{freelistWalk, countsOf};
 ghost use Rattle.base_arena.specs.Shape.{shapeOf};
 use header::CURRENT_GENERATION;
@@ -12,7 +13,7 @@ use header::STACK_LENGTH;
 
 // Refusals 1 to 3, or 0.
 pub fn shape(prev: &[u16], next: &[u16], generation: &[u32], payload: &[u32], header: &[u32]) -> u32
-    ensures { λ r. ⌜ r ≡ shapeOf capacityLimit (arena (now (prev .entry)) (now (next .entry)) (now (generation .entry)) (now (payload .entry)) (now (header .entry))) ⌝ }
+    ensures { λ r. ⌜ r ≡ shapeOf capacityLimit (atEntry prev next generation payload header) ⌝ }
 {
     let capacity = prev.len();
     if header.len() != HEADER_WORDS {

@@ -5,6 +5,7 @@ ghost use Prim.Native.Nat.{ℕ, _≤_};
 ghost use lib.ListN.{length};
 ghost use Rattle.definitions.specs.Columns.{firstOr, lastOr};
 ghost use Rattle.definitions.specs.Arena.{arena, capacityLimit, largestGeneration, headerWords, linkSlots, freeSlots};
+ghost use Rattle.definitions.specs.Lent.{lent, atEntry, atExit};
 ghost use Rattle.definitions.specs.Check.{verdict};
 ghost use Rattle.definitions.specs.Reply.{reply};
 ghost use Rattle.definitions.specs.Edit.{setGeneration, incGeneration};
@@ -149,9 +150,9 @@ pub fn canonicalize_freelist(
     payload: &mut [u32],
     header: &mut [u32],
 )
-    requires { ⌜ verdict capacityLimit (arena (now prev) (now next) (now generation) (now payload) (now header)) ≡ 0 ⌝ }
-    ensures { λ _. ⌜ reply 0 [] (arena (now (prev .exit)) (now (next .exit)) (now (generation .exit)) (now (payload .exit)) (now (header .exit))) []
-        ≡ canonicalizeFreelist (arena (now (prev .entry)) (now (next .entry)) (now (generation .entry)) (now (payload .entry)) (now (header .entry))) [] ⌝ }
+    requires { ⌜ verdict capacityLimit (lent prev next generation payload header) ≡ 0 ⌝ }
+    ensures { λ _. ⌜ reply 0 [] (atExit prev next generation payload header) []
+        ≡ canonicalizeFreelist (atEntry prev next generation payload header) [] ⌝ }
 {
     let n = header[STACK_LENGTH] as usize;
     let m = highest_link(&*generation, n);

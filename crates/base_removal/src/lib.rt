@@ -6,6 +6,7 @@ ghost use Prim.Native.Nat.{ℕ, _-_, _≤_, _<_};
 ghost use lib.Dec.{eqb};
 ghost use lib.ListN.{length, getD};
 ghost use Rattle.definitions.specs.Arena.{arena, capacityLimit, largestGeneration, headerWords, withStackLength, withRoot};
+ghost use Rattle.definitions.specs.Lent.{lent, atEntry, atExit};
 ghost use Rattle.definitions.specs.Remove.{joined, vacated};
 ghost use Rattle.base_removal.specs.Removal.{Joinable, Stands, Counted, Removable, TakenOut};
 use columns::put_at;
@@ -71,8 +72,8 @@ pub fn pop(
 )
     requires { ⌜ Stands (now prev) (now next) (now generation) (now payload) (s .0) ⌝ }
     requires { ⌜ (length (now header) ≡ headerWords) × (s .0 ≡ getD (now header) 0 0) ⌝ }
-    ensures { λ _. ⌜ arena (now (prev .exit)) (now (next .exit)) (now (generation .exit)) (now (payload .exit)) (now (header .exit))
-        ≡ vacated (arena (now (prev .entry)) (now (next .entry)) (now (generation .entry)) (now (payload .entry)) (now (header .entry))) (s .0) 0
+    ensures { λ _. ⌜ atExit prev next generation payload header
+        ≡ vacated (atEntry prev next generation payload header) (s .0) 0
         (withStackLength (s .0 - 1) (now (header .entry))) ⌝ }
 {
     vacate(prev, next, generation, payload, s, Slot(0));
@@ -101,8 +102,8 @@ pub fn free(
 )
     requires { ⌜ Stands (now prev) (now next) (now generation) (now payload) (s .0) ⌝ }
     requires { ⌜ (length (now header) ≡ headerWords) × (getD (now header) 2 0 ≤ capacityLimit) ⌝ }
-    ensures { λ _. ⌜ arena (now (prev .exit)) (now (next .exit)) (now (generation .exit)) (now (payload .exit)) (now (header .exit))
-        ≡ vacated (arena (now (prev .entry)) (now (next .entry)) (now (generation .entry)) (now (payload .entry)) (now (header .entry))) (s .0)
+    ensures { λ _. ⌜ atExit prev next generation payload header
+        ≡ vacated (atEntry prev next generation payload header) (s .0)
         (cond (eqb (getD (now (header .entry)) 2 0) 0) (s .0) (getD (now (header .entry)) 2 0)) (withRoot (s .0) (now (header .entry))) ⌝ }
 {
     let f = freelist_pointer(header[ROOT], s);
@@ -119,10 +120,10 @@ pub fn take_out(
     header: &mut [u32],
     s: Slot,
 ) -> bool
-    requires { ⌜ Removable (arena (now prev) (now next) (now generation) (now payload) (now header)) (s .0) ⌝ }
+    requires { ⌜ Removable (lent prev next generation payload header) (s .0) ⌝ }
     ensures { λ r. ⌜ TakenOut largestGeneration
-        (arena (now (prev .entry)) (now (next .entry)) (now (generation .entry)) (now (payload .entry)) (now (header .entry))) (s .0)
-        (arena (now (prev .exit)) (now (next .exit)) (now (generation .exit)) (now (payload .exit)) (now (header .exit))) r ⌝ }
+        (atEntry prev next generation payload header) (s .0)
+        (atExit prev next generation payload header) r ⌝ }
 {
     let n = header[STACK_LENGTH];
     let last = s.0 as u32;

@@ -4,7 +4,7 @@ ghost use mathlib.Core.Bool.{false};
 ghost use Prim.Native.Nat.{_≤_, _<_};
 ghost use lib.ListN.{length};
 ghost use lib.Dec.{eqb};
-ghost use Rattle.definitions.specs.Arena.{arena};
+ghost use Rattle.definitions.specs.Lent.{atEntry};
 ghost use Rattle.definitions.specs.Check.{namesBack, neighboursFine, allFine};
 ghost use Rattle.chain_arena.specs.Checked.{checkedNumber, brokenSlot, Checks};
 use base_arena::counts;
@@ -101,7 +101,7 @@ pub fn check(
     payload: &[u32],
     header: &[u32],
 ) -> Checked
-    ensures { λ r. ⌜ Checks (arena (now (prev .entry)) (now (next .entry)) (now (generation .entry)) (now (payload .entry)) (now (header .entry))) r ⌝ }
+    ensures { λ r. ⌜ Checks (atEntry prev next generation payload header) r ⌝ }
 {
     let misshapen = shape(prev, next, generation, payload, header);
     if misshapen != 0 {

@@ -7,6 +7,7 @@ ghost use Prim.Native.Nat.{_+_, _*_, _≤_};
 ghost use lib.Dec.{eqb, ltb};
 ghost use lib.ListN.{length, getD};
 ghost use Rattle.definitions.specs.Arena.{arena, capacityLimit, largestGeneration};
+ghost use Rattle.definitions.specs.Lent.{lent, atEntry, atExit};
 ghost use Rattle.definitions.specs.Check.{WellFormed};
 ghost use Rattle.definitions.specs.Remove.{drain};
 ghost use Rattle.definitions.proofs.Shaped.{Shaped};
@@ -45,8 +46,8 @@ pub fn links_ahead(
     header: &[u32],
     mut walk: ChainPtrAdvancer,
 ) -> u32
-    requires { ⌜ Shaped capacityLimit (arena (now prev) (now next) (now generation) (now payload) (now header)) ⌝ }
-    ensures { λ r. ⌜ r ≡ length (slotsAhead (arena (now (prev .entry)) (now (next .entry)) (now (generation .entry)) (now (payload .entry)) (now (header .entry))) (walkOf walk)) ⌝ }
+    requires { ⌜ Shaped capacityLimit (lent prev next generation payload header) ⌝ }
+    ensures { λ r. ⌜ r ≡ length (slotsAhead (atEntry prev next generation payload header) (walkOf walk)) ⌝ }
 {
     let mut links: u32 = 0;
     loop {
@@ -70,8 +71,8 @@ pub fn too_short(
     walk: ChainPtrAdvancer,
     room: usize,
 ) -> bool
-    requires { ⌜ Shaped capacityLimit (arena (now prev) (now next) (now generation) (now payload) (now header)) ⌝ }
-    ensures { λ r. ⌜ r ≡ ltb room (5 * length (slotsAhead (arena (now (prev .entry)) (now (next .entry)) (now (generation .entry)) (now (payload .entry)) (now (header .entry))) (walkOf walk))) ⌝ }
+    requires { ⌜ Shaped capacityLimit (lent prev next generation payload header) ⌝ }
+    ensures { λ r. ⌜ r ≡ ltb room (5 * length (slotsAhead (atEntry prev next generation payload header) (walkOf walk))) ⌝ }
 {
     let items = room / 5;
     if walk.max_advances as usize <= items {
@@ -90,9 +91,9 @@ pub fn list_slots(
     mut walk: ChainPtrAdvancer,
     report: &mut [u32],
 ) -> u32
-    requires { ⌜ Shaped capacityLimit (arena (now prev) (now next) (now generation) (now payload) (now header)) ⌝ }
-    requires { ⌜ 5 * length (slotsAhead (arena (now prev) (now next) (now generation) (now payload) (now header)) (walkOf walk)) ≤ length (now report) ⌝ }
-    ensures { λ r. ⌜ Listed (slotsAhead (arena (now (prev .entry)) (now (next .entry)) (now (generation .entry)) (now (payload .entry)) (now (header .entry))) (walkOf walk))
+    requires { ⌜ Shaped capacityLimit (lent prev next generation payload header) ⌝ }
+    requires { ⌜ 5 * length (slotsAhead (lent prev next generation payload header) (walkOf walk)) ≤ length (now report) ⌝ }
+    ensures { λ r. ⌜ Listed (slotsAhead (atEntry prev next generation payload header) (walkOf walk))
         (now (report .entry)) (now (report .exit)) r ⌝ }
 {
     let mut items: u32 = 0;
@@ -140,11 +141,11 @@ pub fn drain_item(
     report: &mut [u32],
     i: usize,
 ) -> bool
-    requires { ⌜ Removable (arena (now prev) (now next) (now generation) (now payload) (now header)) (getD (now report) i 0) ⌝ }
+    requires { ⌜ Removable (lent prev next generation payload header) (getD (now report) i 0) ⌝ }
     requires { ⌜ (getD (now report) i 0 ≤ capacityLimit) × (i + 5 ≤ length (now report)) ⌝ }
     ensures { λ r. ⌜ ItemDrained largestGeneration
-        (arena (now (prev .entry)) (now (next .entry)) (now (generation .entry)) (now (payload .entry)) (now (header .entry))) (getD (now (report .entry)) i 0) i (now (report .entry))
-        (arena (now (prev .exit)) (now (next .exit)) (now (generation .exit)) (now (payload .exit)) (now (header .exit))) (now (report .exit)) r ⌝ }
+        (atEntry prev next generation payload header) (getD (now (report .entry)) i 0) i (now (report .entry))
+        (atExit prev next generation payload header) (now (report .exit)) r ⌝ }
 {
     let s = Slot(report[i] as u16);
     report_link(&*prev, &*next, &*generation, &*payload, s, report, i);
@@ -172,11 +173,11 @@ pub fn drain_items(
     report: &mut [u32],
     items: u32,
 ) -> u32
-    requires { ⌜ Drainable capacityLimit (arena (now prev) (now next) (now generation) (now payload) (now header)) (itemSlots items (now report)) ⌝ }
+    requires { ⌜ Drainable capacityLimit (lent prev next generation payload header) (itemSlots items (now report)) ⌝ }
     requires { ⌜ 5 * items ≤ length (now report) ⌝ }
     ensures { λ r. ⌜ ItemsDrained largestGeneration
-        (arena (now (prev .entry)) (now (next .entry)) (now (generation .entry)) (now (payload .entry)) (now (header .entry))) (itemSlots items (now (report .entry))) (now (report .entry))
-        (arena (now (prev .exit)) (now (next .exit)) (now (generation .exit)) (now (payload .exit)) (now (header .exit))) (now (report .exit)) r ⌝ }
+        (atEntry prev next generation payload header) (itemSlots items (now (report .entry))) (now (report .entry))
+        (atExit prev next generation payload header) (now (report .exit)) r ⌝ }
 {
     let mut overflowed: u32 = 0;
     let mut item: u32 = 0;
@@ -206,9 +207,9 @@ pub fn drain(
     p: Ptr,
     report: &mut [u32],
 ) -> Drained
-    requires { ⌜ WellFormed capacityLimit (arena (now prev) (now next) (now generation) (now payload) (now header)) ⌝ }
-    ensures { λ r. ⌜ drainReply r (arena (now (prev .exit)) (now (next .exit)) (now (generation .exit)) (now (payload .exit)) (now (header .exit))) (now (report .exit))
-        ≡ drain largestGeneration (arena (now (prev .entry)) (now (next .entry)) (now (generation .entry)) (now (payload .entry)) (now (header .entry)))
+    requires { ⌜ WellFormed capacityLimit (lent prev next generation payload header) ⌝ }
+    ensures { λ r. ⌜ drainReply r (atExit prev next generation payload header) (now (report .exit))
+        ≡ drain largestGeneration (atEntry prev next generation payload header)
         (pointerOf p) (now (report .entry)) ⌝ }
 {
     let started = advancer_chain(&*prev, &*next, &*generation, &*payload, &*header, p);

@@ -5,7 +5,8 @@ ghost use mathlib.Core.List.{[]};
 ghost use Prim.Native.Nat.{_≤_, _<_};
 ghost use lib.ListN.{length};
 ghost use Rattle.definitions.specs.Columns.{put};
-ghost use Rattle.definitions.specs.Arena.{arena, capacityLimit, largestGeneration};
+ghost use Rattle.definitions.specs.Arena.{capacityLimit, largestGeneration};
+ghost use Rattle.definitions.specs.Lent.{lent, atEntry, atExit};
 ghost use Rattle.definitions.specs.Check.{WellFormed};
 ghost use Rattle.definitions.specs.Edit.{connect, breakPrev, breakNext, exchangeNext};
 ghost use Rattle.definitions.specs.Remove.{remove};
@@ -55,9 +56,9 @@ pub fn connect(
     p_prev: Ptr,
     p_next: Ptr,
 ) -> Edited
-    requires { ⌜ WellFormed capacityLimit (arena (now prev) (now next) (now generation) (now payload) (now header)) ⌝ }
-    ensures { λ r. ⌜ editedReply r (arena (now (prev .exit)) (now (next .exit)) (now (generation .entry)) (now (payload .entry)) (now (header .entry)))
-        ≡ connect (arena (now (prev .entry)) (now (next .entry)) (now (generation .entry)) (now (payload .entry)) (now (header .entry)))
+    requires { ⌜ WellFormed capacityLimit (lent prev next generation payload header) ⌝ }
+    ensures { λ r. ⌜ editedReply r (atExit prev next generation payload header)
+        ≡ connect (atEntry prev next generation payload header)
         (pointerOf «p_prev») (pointerOf «p_next») [] ⌝ }
 {
     let n = header[STACK_LENGTH] as usize;
@@ -99,9 +100,9 @@ pub fn break_side(
     p: Ptr,
     after: bool,
 ) -> Edited
-    requires { ⌜ WellFormed capacityLimit (arena (now prev) (now next) (now generation) (now payload) (now header)) ⌝ }
-    ensures { λ r. ⌜ editedReply r (arena (now (prev .exit)) (now (next .exit)) (now (generation .entry)) (now (payload .entry)) (now (header .entry)))
-        ≡ breakSide (arena (now (prev .entry)) (now (next .entry)) (now (generation .entry)) (now (payload .entry)) (now (header .entry))) (pointerOf p) after ⌝ }
+    requires { ⌜ WellFormed capacityLimit (lent prev next generation payload header) ⌝ }
+    ensures { λ r. ⌜ editedReply r (atExit prev next generation payload header)
+        ≡ breakSide (atEntry prev next generation payload header) (pointerOf p) after ⌝ }
 {
     let n = header[STACK_LENGTH] as usize;
     if stale(generation, n, p) {
@@ -127,9 +128,9 @@ pub fn break_prev(
     header: &[u32],
     p: Ptr,
 ) -> Edited
-    requires { ⌜ WellFormed capacityLimit (arena (now prev) (now next) (now generation) (now payload) (now header)) ⌝ }
-    ensures { λ r. ⌜ editedReply r (arena (now (prev .exit)) (now (next .exit)) (now (generation .entry)) (now (payload .entry)) (now (header .entry)))
-        ≡ breakPrev (arena (now (prev .entry)) (now (next .entry)) (now (generation .entry)) (now (payload .entry)) (now (header .entry))) (pointerOf p) [] ⌝ }
+    requires { ⌜ WellFormed capacityLimit (lent prev next generation payload header) ⌝ }
+    ensures { λ r. ⌜ editedReply r (atExit prev next generation payload header)
+        ≡ breakPrev (atEntry prev next generation payload header) (pointerOf p) [] ⌝ }
 {
     break_side(prev, next, generation, payload, header, p, false)
 }
@@ -143,9 +144,9 @@ pub fn break_next(
     header: &[u32],
     p: Ptr,
 ) -> Edited
-    requires { ⌜ WellFormed capacityLimit (arena (now prev) (now next) (now generation) (now payload) (now header)) ⌝ }
-    ensures { λ r. ⌜ editedReply r (arena (now (prev .exit)) (now (next .exit)) (now (generation .entry)) (now (payload .entry)) (now (header .entry)))
-        ≡ breakNext (arena (now (prev .entry)) (now (next .entry)) (now (generation .entry)) (now (payload .entry)) (now (header .entry))) (pointerOf p) [] ⌝ }
+    requires { ⌜ WellFormed capacityLimit (lent prev next generation payload header) ⌝ }
+    ensures { λ r. ⌜ editedReply r (atExit prev next generation payload header)
+        ≡ breakNext (atEntry prev next generation payload header) (pointerOf p) [] ⌝ }
 {
     break_side(prev, next, generation, payload, header, p, true)
 }
@@ -169,9 +170,9 @@ pub fn exchange_next(
     p0: Ptr,
     p1: Ptr,
 ) -> Edited
-    requires { ⌜ WellFormed capacityLimit (arena (now prev) (now next) (now generation) (now payload) (now header)) ⌝ }
-    ensures { λ r. ⌜ editedReply r (arena (now (prev .exit)) (now (next .exit)) (now (generation .entry)) (now (payload .entry)) (now (header .entry)))
-        ≡ exchangeNext (arena (now (prev .entry)) (now (next .entry)) (now (generation .entry)) (now (payload .entry)) (now (header .entry)))
+    requires { ⌜ WellFormed capacityLimit (lent prev next generation payload header) ⌝ }
+    ensures { λ r. ⌜ editedReply r (atExit prev next generation payload header)
+        ≡ exchangeNext (atEntry prev next generation payload header)
         (pointerOf p0) (pointerOf p1) [] ⌝ }
 {
     let n = header[STACK_LENGTH] as usize;
@@ -203,9 +204,9 @@ pub fn remove(
     header: &mut [u32],
     p: Ptr,
 ) -> InvalidationResult
-    requires { ⌜ WellFormed capacityLimit (arena (now prev) (now next) (now generation) (now payload) (now header)) ⌝ }
-    ensures { λ r. ⌜ removalReply r (arena (now (prev .exit)) (now (next .exit)) (now (generation .exit)) (now (payload .exit)) (now (header .exit))) []
-        ≡ remove largestGeneration (arena (now (prev .entry)) (now (next .entry)) (now (generation .entry)) (now (payload .entry)) (now (header .entry))) (pointerOf p) [] ⌝ }
+    requires { ⌜ WellFormed capacityLimit (lent prev next generation payload header) ⌝ }
+    ensures { λ r. ⌜ removalReply r (atExit prev next generation payload header) []
+        ≡ remove largestGeneration (atEntry prev next generation payload header) (pointerOf p) [] ⌝ }
 {
     match get_link_no_gen(&*prev, &*next, &*generation, &*payload, &*header, p) {
         GotLinkNoGen::Stale => InvalidationResult::InvalidPtr,

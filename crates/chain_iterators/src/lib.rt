@@ -5,7 +5,8 @@ ghost use mathlib.Core.List.{[]};
 ghost use Prim.Native.Nat.{_-_, _≤_, _<_};
 ghost use lib.ListN.{length};
 ghost use Rattle.definitions.specs.Columns.{at};
-ghost use Rattle.definitions.specs.Arena.{arena, capacityLimit, allocated, isLink};
+ghost use Rattle.definitions.specs.Arena.{capacityLimit, allocated, isLink};
+ghost use Rattle.definitions.specs.Lent.{lent, atEntry};
 ghost use Rattle.definitions.specs.Walk.{walk, walkStart, onward, step};
 ghost use Rattle.definitions.proofs.Shaped.{Shaped};
 ghost use Rattle.chain_traits.specs.Read.{pointerOf};
@@ -77,9 +78,9 @@ pub fn advancer_chain(
     header: &[u32],
     p: Ptr,
 ) -> Started
-    requires { ⌜ Shaped capacityLimit (arena (now prev) (now next) (now generation) (now payload) (now header)) ⌝ }
-    ensures { λ r. ⌜ startReply r (arena (now (prev .entry)) (now (next .entry)) (now (generation .entry)) (now (payload .entry)) (now (header .entry))) []
-        ≡ walkStart (arena (now (prev .entry)) (now (next .entry)) (now (generation .entry)) (now (payload .entry)) (now (header .entry))) (pointerOf p) [] ⌝ }
+    requires { ⌜ Shaped capacityLimit (lent prev next generation payload header) ⌝ }
+    ensures { λ r. ⌜ startReply r (atEntry prev next generation payload header) []
+        ≡ walkStart (atEntry prev next generation payload header) (pointerOf p) [] ⌝ }
 {
     if stale(generation, header[STACK_LENGTH] as usize, p) {
         return Started::Stale;
@@ -116,9 +117,9 @@ impl ChainPtrAdvancer {
         payload: &[u32],
         header: &[u32],
     ) -> ChainPtrAdvancer
-        requires { ⌜ Shaped capacityLimit (arena (now prev) (now next) (now generation) (now payload) (now header)) ⌝ }
-        requires { ⌜ (isLink (arena (now prev) (now next) (now generation) (now payload) (now header)) (self .ptr) ≡ true) × (0 < self .«max_advances») ⌝ }
-        ensures { λ r. ⌜ walkOf r ≡ onward (arena (now (prev .entry)) (now (next .entry)) (now (generation .entry)) (now (payload .entry)) (now (header .entry))) (walkOf self) ⌝ }
+        requires { ⌜ Shaped capacityLimit (lent prev next generation payload header) ⌝ }
+        requires { ⌜ (isLink (lent prev next generation payload header) (self .ptr) ≡ true) × (0 < self .«max_advances») ⌝ }
+        ensures { λ r. ⌜ walkOf r ≡ onward (atEntry prev next generation payload header) (walkOf self) ⌝ }
     {
         let here = Slot(self.ptr as u16);
         if self.switch != 0 {
@@ -146,8 +147,8 @@ impl ChainPtrAdvancer {
         payload: &[u32],
         header: &[u32],
     ) -> Advanced
-        requires { ⌜ Shaped capacityLimit (arena (now prev) (now next) (now generation) (now payload) (now header)) ⌝ }
-        ensures { λ r. ⌜ steppedOf r ≡ step (arena (now (prev .entry)) (now (next .entry)) (now (generation .entry)) (now (payload .entry)) (now (header .entry))) (walkOf self) ⌝ }
+        requires { ⌜ Shaped capacityLimit (lent prev next generation payload header) ⌝ }
+        ensures { λ r. ⌜ steppedOf r ≡ step (atEntry prev next generation payload header) (walkOf self) ⌝ }
     {
         if self.max_advances == 0 {
             return Advanced {

@@ -2,7 +2,8 @@
 ghost use mathlib.Core.Path.{_≡_};
 ghost use Prim.Native.Nat.{_+_, _*_, _/_, _≤_};
 ghost use lib.ListN.{length};
-ghost use Rattle.definitions.specs.Arena.{arena, capacityLimit, largestGeneration};
+ghost use Rattle.definitions.specs.Arena.{capacityLimit, largestGeneration};
+ghost use Rattle.definitions.specs.Lent.{lent, atEntry, atExit};
 ghost use Rattle.definitions.specs.Check.{WellFormed};
 ghost use Rattle.definitions.specs.Run.{commandWords, commandAt, run};
 ghost use Rattle.chain_traits.specs.Read.{pointerOf};
@@ -79,10 +80,10 @@ pub fn apply(
     header: &mut [u32],
     c: Command,
 ) -> u32
-    requires { ⌜ WellFormed capacityLimit (arena (now prev) (now next) (now generation) (now payload) (now header)) ⌝ }
+    requires { ⌜ WellFormed capacityLimit (lent prev next generation payload header) ⌝ }
     ensures { λ r. ⌜ Applied largestGeneration
-        (arena (now (prev .entry)) (now (next .entry)) (now (generation .entry)) (now (payload .entry)) (now (header .entry))) (commandOf c) r
-        (arena (now (prev .exit)) (now (next .exit)) (now (generation .exit)) (now (payload .exit)) (now (header .exit))) ⌝ }
+        (atEntry prev next generation payload header) (commandOf c) r
+        (atExit prev next generation payload header) ⌝ }
 {
     let first = c.first;
     let second = c.second;
@@ -117,12 +118,12 @@ pub fn apply_all(
     commands: &[u32],
     answers: &mut [u32],
 )
-    requires { ⌜ WellFormed capacityLimit (arena (now prev) (now next) (now generation) (now payload) (now header)) ⌝ }
+    requires { ⌜ WellFormed capacityLimit (lent prev next generation payload header) ⌝ }
     requires { ⌜ length (now commands) / commandWords ≤ length (now answers) ⌝ }
     ensures { λ _. ⌜ AllApplied largestGeneration
-        (arena (now (prev .entry)) (now (next .entry)) (now (generation .entry)) (now (payload .entry)) (now (header .entry)))
+        (atEntry prev next generation payload header)
         (now (commands .entry)) (now (answers .entry))
-        (arena (now (prev .exit)) (now (next .exit)) (now (generation .exit)) (now (payload .exit)) (now (header .exit))) (now (answers .exit)) ⌝ }
+        (atExit prev next generation payload header) (now (answers .exit)) ⌝ }
 {
     let n = commands.len() / COMMAND_WORDS;
     let mut i: usize = 0;
@@ -173,9 +174,9 @@ pub fn run(
     commands: &[u32],
     answers: &mut [u32],
 ) -> Ran
-    requires { ⌜ WellFormed capacityLimit (arena (now prev) (now next) (now generation) (now payload) (now header)) ⌝ }
-    ensures { λ r. ⌜ ranReply r (arena (now (prev .exit)) (now (next .exit)) (now (generation .exit)) (now (payload .exit)) (now (header .exit))) (now (answers .exit))
-        ≡ run largestGeneration (arena (now (prev .entry)) (now (next .entry)) (now (generation .entry)) (now (payload .entry)) (now (header .entry)))
+    requires { ⌜ WellFormed capacityLimit (lent prev next generation payload header) ⌝ }
+    ensures { λ r. ⌜ ranReply r (atExit prev next generation payload header) (now (answers .exit))
+        ≡ run largestGeneration (atEntry prev next generation payload header)
         (now (commands .entry)) (now (answers .entry)) ⌝ }
 {
     if commands.len() % COMMAND_WORDS != 0 {

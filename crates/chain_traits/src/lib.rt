@@ -4,7 +4,8 @@ ghost use mathlib.Core.List.{[]};
 ghost use Prim.Native.Nat.{_≤_};
 ghost use lib.ListN.{length};
 ghost use Rattle.definitions.specs.Columns.{at};
-ghost use Rattle.definitions.specs.Arena.{arena, capacityLimit};
+ghost use Rattle.definitions.specs.Arena.{capacityLimit};
+ghost use Rattle.definitions.specs.Lent.{lent, atEntry};
 ghost use Rattle.definitions.specs.Check.{verdict};
 ghost use Rattle.definitions.specs.Read.{pointer, getLink, getLinkNoGen, neighbors};
 ghost use Rattle.definitions.proofs.Shaped.{Shaped};
@@ -74,9 +75,9 @@ pub fn get_link(
     header: &[u32],
     p: Ptr,
 ) -> GotLink
-    requires { ⌜ verdict capacityLimit (arena (now prev) (now next) (now generation) (now payload) (now header)) ≡ 0 ⌝ }
-    ensures { λ r. ⌜ linkReply r (arena (now (prev .entry)) (now (next .entry)) (now (generation .entry)) (now (payload .entry)) (now (header .entry))) []
-        ≡ getLink (arena (now (prev .entry)) (now (next .entry)) (now (generation .entry)) (now (payload .entry)) (now (header .entry))) (pointerOf p) [] ⌝ }
+    requires { ⌜ verdict capacityLimit (lent prev next generation payload header) ≡ 0 ⌝ }
+    ensures { λ r. ⌜ linkReply r (atEntry prev next generation payload header) []
+        ≡ getLink (atEntry prev next generation payload header) (pointerOf p) [] ⌝ }
 {
     match get_link_no_gen(prev, next, generation, payload, header, p) {
         GotLinkNoGen::Stale => GotLink::Stale,
@@ -97,9 +98,9 @@ pub fn get_link_no_gen(
     header: &[u32],
     p: Ptr,
 ) -> GotLinkNoGen
-    requires { ⌜ Shaped capacityLimit (arena (now prev) (now next) (now generation) (now payload) (now header)) ⌝ }
-    ensures { λ r. ⌜ linkNoGenReply r (arena (now (prev .entry)) (now (next .entry)) (now (generation .entry)) (now (payload .entry)) (now (header .entry))) []
-        ≡ getLinkNoGen (arena (now (prev .entry)) (now (next .entry)) (now (generation .entry)) (now (payload .entry)) (now (header .entry))) (pointerOf p) [] ⌝ }
+    requires { ⌜ Shaped capacityLimit (lent prev next generation payload header) ⌝ }
+    ensures { λ r. ⌜ linkNoGenReply r (atEntry prev next generation payload header) []
+        ≡ getLinkNoGen (atEntry prev next generation payload header) (pointerOf p) [] ⌝ }
 {
     if stale(generation, header[STACK_LENGTH] as usize, p) {
         return GotLinkNoGen::Stale;
@@ -121,8 +122,8 @@ pub fn are_neighbors(
     p_prev: Ptr,
     p_next: Ptr,
 ) -> bool
-    requires { ⌜ Shaped capacityLimit (arena (now prev) (now next) (now generation) (now payload) (now header)) ⌝ }
-    ensures { λ r. ⌜ r ≡ neighbors (arena (now (prev .entry)) (now (next .entry)) (now (generation .entry)) (now (payload .entry)) (now (header .entry)))
+    requires { ⌜ Shaped capacityLimit (lent prev next generation payload header) ⌝ }
+    ensures { λ r. ⌜ r ≡ neighbors (atEntry prev next generation payload header)
         (pointerOf «p_prev») (pointerOf «p_next») ⌝ }
 {
     let n = header[STACK_LENGTH] as usize;

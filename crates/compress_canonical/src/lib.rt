@@ -6,7 +6,8 @@ ghost use Prim.Native.Nat.{ℕ, _+_, _≤_, _<_};
 ghost use lib.Dec.{eqb};
 ghost use lib.ListN.{length};
 ghost use Rattle.definitions.specs.Columns.{at, put};
-ghost use Rattle.definitions.specs.Arena.{Arena, arena, capacityLimit, largestGeneration, stackLength};
+ghost use Rattle.definitions.specs.Arena.{Arena, capacityLimit, largestGeneration, stackLength};
+ghost use Rattle.definitions.specs.Lent.{lent as lentArena, atEntry, atExit};
 ghost use Rattle.definitions.specs.Check.{verdict};
 ghost use Rattle.definitions.specs.Reply.{reply};
 ghost use Rattle.definitions.specs.Compress.{Laying, exchangeWords, lowestFrom, startOf, layChain, laidOut, compressCanonical};
@@ -306,8 +307,8 @@ fn lay_out(
     header: &[u32],
     where_from: &mut [u16],
 )
-    requires { ⌜ Stacked (arena (now prev) (now next) (now generation) (now payload) (now header)) (now «where_from») ⌝ }
-    ensures { λ _. ⌜ LaidIn (arena (now (prev .entry)) (now (next .entry)) (now (generation .entry)) (now (payload .entry)) (now (header .entry))) (now («where_from» .entry))
+    requires { ⌜ Stacked (lentArena prev next generation payload header) (now «where_from») ⌝ }
+    ensures { λ _. ⌜ LaidIn (atEntry prev next generation payload header) (now («where_from» .entry))
         (lent (now (prev .exit)) (now (next .exit)) (now (payload .exit)) (now («where_from» .exit))) ⌝ }
 {
     let n = header[STACK_LENGTH] as usize;
@@ -328,9 +329,9 @@ fn shrink(
     payload: &mut [u32],
     header: &mut [u32],
 )
-    requires { ⌜ Shrinkable (arena (now prev) (now next) (now generation) (now payload) (now header)) ⌝ }
-    ensures { λ _. ⌜ arena (now (prev .exit)) (now (next .exit)) (now (generation .exit)) (now (payload .exit)) (now (header .exit))
-        ≡ shrunk (arena (now (prev .entry)) (now (next .entry)) (now (generation .entry)) (now (payload .entry)) (now (header .entry))) ⌝ }
+    requires { ⌜ Shrinkable (lentArena prev next generation payload header) ⌝ }
+    ensures { λ _. ⌜ atExit prev next generation payload header
+        ≡ shrunk (atEntry prev next generation payload header) ⌝ }
 {
     let n = header[STACK_LENGTH] as usize;
     let links = header[LINK_COUNT];
@@ -351,9 +352,9 @@ pub fn compress_canonical(
     reset: bool,
     where_from: &mut [u16],
 ) -> Compressed
-    requires { ⌜ verdict capacityLimit (arena (now prev) (now next) (now generation) (now payload) (now header)) ≡ 0 ⌝ }
-    ensures { λ r. ⌜ reply (compressedNumber r) [] (arena (now (prev .exit)) (now (next .exit)) (now (generation .exit)) (now (payload .exit)) (now (header .exit))) (now («where_from» .exit))
-        ≡ compressCanonical largestGeneration reset (arena (now (prev .entry)) (now (next .entry)) (now (generation .entry)) (now (payload .entry)) (now (header .entry))) (now («where_from» .entry)) ⌝ }
+    requires { ⌜ verdict capacityLimit (lentArena prev next generation payload header) ≡ 0 ⌝ }
+    ensures { λ r. ⌜ reply (compressedNumber r) [] (atExit prev next generation payload header) (now («where_from» .exit))
+        ≡ compressCanonical largestGeneration reset (atEntry prev next generation payload header) (now («where_from» .entry)) ⌝ }
 {
     if where_from.len() != prev.len() {
         return Compressed::WrongLength;

@@ -7,6 +7,7 @@ ghost use lib.ListN.{length, getD, set, drop, replicate};
 ghost use lib.Seq.{sets};
 ghost use Rattle.definitions.specs.Columns.{at, written};
 ghost use Rattle.definitions.specs.Arena.{arena, capacityLimit, largestGeneration, headerWords, linkSlots};
+ghost use Rattle.definitions.specs.Lent.{lent, atEntry, atExit};
 ghost use Rattle.definitions.specs.Check.{verdict};
 ghost use Rattle.definitions.specs.Reply.{reply};
 ghost use Rattle.definitions.specs.Compress.{compressedHeader, relocate, movesOf, compressWith};
@@ -204,9 +205,9 @@ pub fn compress_with(
     reset: bool,
     report: &mut [u32],
 ) -> Compressed
-    requires { ⌜ verdict capacityLimit (arena (now prev) (now next) (now generation) (now payload) (now header)) ≡ 0 ⌝ }
-    ensures { λ r. ⌜ reply (compressedNumber r) [] (arena (now (prev .exit)) (now (next .exit)) (now (generation .exit)) (now (payload .exit)) (now (header .exit))) (now (report .exit))
-        ≡ compressWith largestGeneration reset (arena (now (prev .entry)) (now (next .entry)) (now (generation .entry)) (now (payload .entry)) (now (header .entry))) (now (report .entry)) ⌝ }
+    requires { ⌜ verdict capacityLimit (lent prev next generation payload header) ≡ 0 ⌝ }
+    ensures { λ r. ⌜ reply (compressedNumber r) [] (atExit prev next generation payload header) (now (report .exit))
+        ≡ compressWith largestGeneration reset (atEntry prev next generation payload header) (now (report .entry)) ⌝ }
 {
     let n = header[STACK_LENGTH] as usize;
     let links = header[LINK_COUNT];

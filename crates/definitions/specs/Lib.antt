@@ -1,5 +1,6 @@
 pub mod Columns
 pub mod Arena
+pub mod Lent
 pub mod Chains
 pub mod Check
 pub mod Reply

@@ -1,6 +1,7 @@
 // Level One: the check of an arena, the reading of links and neighbours, and the walk along a chain, as a host calls them.
 ghost use mathlib.Core.List.{[]};
-ghost use Rattle.definitions.specs.Arena.{arena, capacityLimit, largestGeneration};
+ghost use Rattle.definitions.specs.Arena.{capacityLimit, largestGeneration};
+ghost use Rattle.definitions.specs.Lent.{atEntry};
 ghost use Rattle.definitions.specs.Reply.{reply};
 ghost use Rattle.definitions.specs.Calls.{Answers, Check};
 use chain_arena::check;
@@ -25,8 +26,8 @@ pub extern "C" fn chain_arena_check(
     header: &[u32],
 ) -> CheckResult
     ensures { λ r. ⌜ Answers capacityLimit largestGeneration Check
-        (arena (now (prev .entry)) (now (next .entry)) (now (generation .entry)) (now (payload .entry)) (now (header .entry))) [] (r .broken)
-        (reply (r .number) [] (arena (now (prev .entry)) (now (next .entry)) (now (generation .entry)) (now (payload .entry)) (now (header .entry))) []) ⌝ }
+        (atEntry prev next generation payload header) [] (r .broken)
+        (reply (r .number) [] (atEntry prev next generation payload header) []) ⌝ }
 {
     let checked = check(prev, next, generation, payload, header);
     let number = checked.number();

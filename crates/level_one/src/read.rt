@@ -1,6 +1,7 @@
 // Reading links and neighbours, as a host calls it.
 ghost use mathlib.Core.List.{[], _∷_};
-ghost use Rattle.definitions.specs.Arena.{arena, capacityLimit, largestGeneration};
+ghost use Rattle.definitions.specs.Arena.{capacityLimit, largestGeneration};
+ghost use Rattle.definitions.specs.Lent.{atEntry};
 ghost use Rattle.definitions.specs.Reply.{reply};
 ghost use Rattle.definitions.specs.Read.{pointer};
 ghost use Rattle.definitions.specs.Calls.{Answers, GetLink, GetLinkNoGen, AreNeighbors};
@@ -57,9 +58,9 @@ pub extern "C" fn chain_arena_get_link(
     p_generation: u32,
 ) -> LinkResult
     ensures { λ r. ⌜ Answers capacityLimit largestGeneration (GetLink (pointer «p_slot» «p_generation»))
-        (arena (now (prev .entry)) (now (next .entry)) (now (generation .entry)) (now (payload .entry)) (now (header .entry))) [] (r .broken)
+        (atEntry prev next generation payload header) [] (r .broken)
         (reply (r .number) (r .prev ∷ r .«prev_generation» ∷ r .next ∷ r .«next_generation» ∷ r .payload ∷ [])
-        (arena (now (prev .entry)) (now (next .entry)) (now (generation .entry)) (now (payload .entry)) (now (header .entry))) []) ⌝ }
+        (atEntry prev next generation payload header) []) ⌝ }
 {
     let checked = check(prev, next, generation, payload, header);
     let Checked::Passed = checked else {
@@ -111,9 +112,9 @@ pub extern "C" fn chain_arena_get_link_no_gen(
     p_generation: u32,
 ) -> LinkNoGenResult
     ensures { λ r. ⌜ Answers capacityLimit largestGeneration (GetLinkNoGen (pointer «p_slot» «p_generation»))
-        (arena (now (prev .entry)) (now (next .entry)) (now (generation .entry)) (now (payload .entry)) (now (header .entry))) [] (r .broken)
+        (atEntry prev next generation payload header) [] (r .broken)
         (reply (r .number) (r .prev ∷ r .next ∷ r .payload ∷ [])
-        (arena (now (prev .entry)) (now (next .entry)) (now (generation .entry)) (now (payload .entry)) (now (header .entry))) []) ⌝ }
+        (atEntry prev next generation payload header) []) ⌝ }
 {
     let checked = check(prev, next, generation, payload, header);
     let Checked::Passed = checked else {
@@ -162,9 +163,9 @@ pub extern "C" fn chain_arena_are_neighbors(
 ) -> NeighborsResult
     ensures { λ r. ⌜ Answers capacityLimit largestGeneration
         (AreNeighbors (pointer «p_prev_slot» «p_prev_generation») (pointer «p_next_slot» «p_next_generation»))
-        (arena (now (prev .entry)) (now (next .entry)) (now (generation .entry)) (now (payload .entry)) (now (header .entry))) [] (r .broken)
+        (atEntry prev next generation payload header) [] (r .broken)
         (reply (r .number) (r .yes ∷ [])
-        (arena (now (prev .entry)) (now (next .entry)) (now (generation .entry)) (now (payload .entry)) (now (header .entry))) []) ⌝ }
+        (atEntry prev next generation payload header) []) ⌝ }
 {
     let checked = check(prev, next, generation, payload, header);
     let Checked::Passed = checked else {

@@ -1,6 +1,7 @@
 // The walk along a chain, as a host calls it.
 ghost use mathlib.Core.List.{[], _∷_};
-ghost use Rattle.definitions.specs.Arena.{arena, capacityLimit, largestGeneration};
+ghost use Rattle.definitions.specs.Arena.{capacityLimit, largestGeneration};
+ghost use Rattle.definitions.specs.Lent.{atEntry};
 ghost use Rattle.definitions.specs.Reply.{reply};
 ghost use Rattle.definitions.specs.Read.{pointer};
 ghost use Rattle.definitions.specs.Calls.{Answers, WalkStart, WalkStep};
@@ -49,9 +50,9 @@ pub extern "C" fn chain_arena_walk_start(
     p_generation: u32,
 ) -> WalkResult
     ensures { λ r. ⌜ Answers capacityLimit largestGeneration (WalkStart (pointer «p_slot» «p_generation»))
-        (arena (now (prev .entry)) (now (next .entry)) (now (generation .entry)) (now (payload .entry)) (now (header .entry))) [] (r .broken)
+        (atEntry prev next generation payload header) [] (r .broken)
         (reply (r .number) (r .start ∷ r .position ∷ r .direction ∷ r .left ∷ [])
-        (arena (now (prev .entry)) (now (next .entry)) (now (generation .entry)) (now (payload .entry)) (now (header .entry))) []) ⌝ }
+        (atEntry prev next generation payload header) []) ⌝ }
 {
     let checked = check(prev, next, generation, payload, header);
     let Checked::Passed = checked else {
@@ -102,10 +103,10 @@ pub extern "C" fn chain_arena_walk_step(
     left: u32,
 ) -> StepResult
     ensures { λ r. ⌜ Answers capacityLimit largestGeneration WalkStep
-        (arena (now (prev .entry)) (now (next .entry)) (now (generation .entry)) (now (payload .entry)) (now (header .entry)))
+        (atEntry prev next generation payload header)
         (start ∷ position ∷ direction ∷ left ∷ []) (r .broken)
         (reply (r .number) (r .slot ∷ r .generation ∷ [])
-        (arena (now (prev .entry)) (now (next .entry)) (now (generation .entry)) (now (payload .entry)) (now (header .entry)))
+        (atEntry prev next generation payload header)
         (r .start ∷ r .position ∷ r .direction ∷ r .left ∷ [])) ⌝ }
 {
     let checked = check(prev, next, generation, payload, header);

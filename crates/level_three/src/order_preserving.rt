@@ -2,7 +2,8 @@
 ghost use mathlib.Core.Bool.{not};
 ghost use mathlib.Core.List.{[]};
 ghost use lib.Dec.{eqb};
-ghost use Rattle.definitions.specs.Arena.{arena, capacityLimit, largestGeneration};
+ghost use Rattle.definitions.specs.Arena.{capacityLimit, largestGeneration};
+ghost use Rattle.definitions.specs.Lent.{atEntry, atExit};
 ghost use Rattle.definitions.specs.Reply.{reply};
 ghost use Rattle.definitions.specs.Calls.{Answers, CompressWith};
 use chain_arena::Checked;
@@ -29,8 +30,8 @@ pub extern "C" fn chain_arena_compress_with(
     report: &mut [u32],
 ) -> CompressWithResult
     ensures { λ r. ⌜ Answers capacityLimit largestGeneration (CompressWith (not (eqb reset 0)))
-        (arena (now (prev .entry)) (now (next .entry)) (now (generation .entry)) (now (payload .entry)) (now (header .entry))) (now (report .entry)) (r .broken)
-        (reply (r .number) [] (arena (now (prev .exit)) (now (next .exit)) (now (generation .exit)) (now (payload .exit)) (now (header .exit))) (now (report .exit))) ⌝ }
+        (atEntry prev next generation payload header) (now (report .entry)) (r .broken)
+        (reply (r .number) [] (atExit prev next generation payload header) (now (report .exit))) ⌝ }
 {
     let checked = check(&*prev, &*next, &*generation, &*payload, &*header);
     let Checked::Passed = checked else {

@@ -2,7 +2,8 @@
 ghost use mathlib.Core.List.{List, [], _∷_};
 ghost use mathlib.Core.Path.{_≡_};
 ghost use Prim.Native.Nat.{ℕ};
-ghost use Rattle.definitions.specs.Arena.{Arena, arena, capacityLimit, largestGeneration};
+ghost use Rattle.definitions.specs.Arena.{Arena, capacityLimit, largestGeneration};
+ghost use Rattle.definitions.specs.Lent.{atEntry, atExit};
 ghost use Rattle.definitions.specs.Reply.{reply};
 ghost use Rattle.definitions.specs.Read.{pointer};
 ghost use Rattle.definitions.specs.Calls.{Answers, Drain};
@@ -63,8 +64,8 @@ pub extern "C" fn chain_arena_drain(
     report: &mut [u32],
 ) -> DrainResult
     ensures { λ r. ⌜ Answers capacityLimit largestGeneration (Drain (pointer «p_slot» «p_generation»))
-        (arena (now (prev .entry)) (now (next .entry)) (now (generation .entry)) (now (payload .entry)) (now (header .entry))) (now (report .entry)) (r .broken)
-        (reply (r .number) (r .items ∷ r .overflowed ∷ []) (arena (now (prev .exit)) (now (next .exit)) (now (generation .exit)) (now (payload .exit)) (now (header .exit))) (now (report .exit))) ⌝ }
+        (atEntry prev next generation payload header) (now (report .entry)) (r .broken)
+        (reply (r .number) (r .items ∷ r .overflowed ∷ []) (atExit prev next generation payload header) (now (report .exit))) ⌝ }
 {
     let checked = check(&*prev, &*next, &*generation, &*payload, &*header);
     let Checked::Passed = checked else {

@@ -2,7 +2,8 @@
 ghost use mathlib.Core.List.{List, [], _∷_};
 ghost use mathlib.Core.Path.{_≡_};
 ghost use Prim.Native.Nat.{ℕ};
-ghost use Rattle.definitions.specs.Arena.{Arena, arena, capacityLimit, largestGeneration};
+ghost use Rattle.definitions.specs.Arena.{Arena, capacityLimit, largestGeneration};
+ghost use Rattle.definitions.specs.Lent.{atEntry, atExit};
 ghost use Rattle.definitions.specs.Reply.{reply};
 ghost use Rattle.definitions.specs.Read.{pointer};
 ghost use Rattle.definitions.specs.Calls.{Answers, Connect, BreakPrev, BreakNext, ExchangeNext, Remove};
@@ -50,8 +51,8 @@ pub extern "C" fn chain_arena_connect(
     p_next_generation: u32,
 ) -> EditResult
     ensures { λ r. ⌜ Answers capacityLimit largestGeneration (Connect (pointer «p_prev_slot» «p_prev_generation») (pointer «p_next_slot» «p_next_generation»))
-        (arena (now (prev .entry)) (now (next .entry)) (now (generation .entry)) (now (payload .entry)) (now (header .entry))) [] (r .broken)
-        (reply (r .number) [] (arena (now (prev .exit)) (now (next .exit)) (now (generation .entry)) (now (payload .entry)) (now (header .entry))) []) ⌝ }
+        (atEntry prev next generation payload header) [] (r .broken)
+        (reply (r .number) [] (atExit prev next generation payload header) []) ⌝ }
 {
     let checked = check(&*prev, &*next, generation, payload, header);
     let Checked::Passed = checked else {
@@ -87,8 +88,8 @@ pub extern "C" fn chain_arena_break_prev(
     p_generation: u32,
 ) -> EditResult
     ensures { λ r. ⌜ Answers capacityLimit largestGeneration (BreakPrev (pointer «p_slot» «p_generation»))
-        (arena (now (prev .entry)) (now (next .entry)) (now (generation .entry)) (now (payload .entry)) (now (header .entry))) [] (r .broken)
-        (reply (r .number) [] (arena (now (prev .exit)) (now (next .exit)) (now (generation .entry)) (now (payload .entry)) (now (header .entry))) []) ⌝ }
+        (atEntry prev next generation payload header) [] (r .broken)
+        (reply (r .number) [] (atExit prev next generation payload header) []) ⌝ }
 {
     let checked = check(&*prev, &*next, generation, payload, header);
     let Checked::Passed = checked else {
@@ -120,8 +121,8 @@ pub extern "C" fn chain_arena_break_next(
     p_generation: u32,
 ) -> EditResult
     ensures { λ r. ⌜ Answers capacityLimit largestGeneration (BreakNext (pointer «p_slot» «p_generation»))
-        (arena (now (prev .entry)) (now (next .entry)) (now (generation .entry)) (now (payload .entry)) (now (header .entry))) [] (r .broken)
-        (reply (r .number) [] (arena (now (prev .exit)) (now (next .exit)) (now (generation .entry)) (now (payload .entry)) (now (header .entry))) []) ⌝ }
+        (atEntry prev next generation payload header) [] (r .broken)
+        (reply (r .number) [] (atExit prev next generation payload header) []) ⌝ }
 {
     let checked = check(&*prev, &*next, generation, payload, header);
     let Checked::Passed = checked else {
@@ -155,8 +156,8 @@ pub extern "C" fn chain_arena_exchange_next(
     p1_generation: u32,
 ) -> EditResult
     ensures { λ r. ⌜ Answers capacityLimit largestGeneration (ExchangeNext (pointer «p0_slot» «p0_generation») (pointer «p1_slot» «p1_generation»))
-        (arena (now (prev .entry)) (now (next .entry)) (now (generation .entry)) (now (payload .entry)) (now (header .entry))) [] (r .broken)
-        (reply (r .number) [] (arena (now (prev .exit)) (now (next .exit)) (now (generation .entry)) (now (payload .entry)) (now (header .entry))) []) ⌝ }
+        (atEntry prev next generation payload header) [] (r .broken)
+        (reply (r .number) [] (atExit prev next generation payload header) []) ⌝ }
 {
     let checked = check(&*prev, &*next, generation, payload, header);
     let Checked::Passed = checked else {
@@ -222,8 +223,8 @@ pub extern "C" fn chain_arena_remove(
     p_generation: u32,
 ) -> RemoveResult
     ensures { λ r. ⌜ Answers capacityLimit largestGeneration (Remove (pointer «p_slot» «p_generation»))
-        (arena (now (prev .entry)) (now (next .entry)) (now (generation .entry)) (now (payload .entry)) (now (header .entry))) [] (r .broken)
-        (reply (r .number) (r .prev ∷ r .next ∷ r .payload ∷ []) (arena (now (prev .exit)) (now (next .exit)) (now (generation .exit)) (now (payload .exit)) (now (header .exit))) []) ⌝ }
+        (atEntry prev next generation payload header) [] (r .broken)
+        (reply (r .number) (r .prev ∷ r .next ∷ r .payload ∷ []) (atExit prev next generation payload header) []) ⌝ }
 {
     let checked = check(&*prev, &*next, &*generation, &*payload, &*header);
     let Checked::Passed = checked else {

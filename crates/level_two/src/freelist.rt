@@ -1,6 +1,7 @@
 // The freelist put in order, as a host calls it.
 ghost use mathlib.Core.List.{[]};
-ghost use Rattle.definitions.specs.Arena.{arena, capacityLimit, largestGeneration};
+ghost use Rattle.definitions.specs.Arena.{capacityLimit, largestGeneration};
+ghost use Rattle.definitions.specs.Lent.{atEntry, atExit};
 ghost use Rattle.definitions.specs.Reply.{reply};
 ghost use Rattle.definitions.specs.Calls.{Answers, CanonicalizeFreelist};
 use base_freelist::canonicalize_freelist;
@@ -24,8 +25,8 @@ pub extern "C" fn chain_arena_canonicalize_freelist(
     header: &mut [u32],
 ) -> FreelistResult
     ensures { λ r. ⌜ Answers capacityLimit largestGeneration CanonicalizeFreelist
-        (arena (now (prev .entry)) (now (next .entry)) (now (generation .entry)) (now (payload .entry)) (now (header .entry))) [] (r .broken)
-        (reply (r .number) [] (arena (now (prev .exit)) (now (next .exit)) (now (generation .exit)) (now (payload .exit)) (now (header .exit))) []) ⌝ }
+        (atEntry prev next generation payload header) [] (r .broken)
+        (reply (r .number) [] (atExit prev next generation payload header) []) ⌝ }
 {
     let checked = check(&*prev, &*next, &*generation, &*payload, &*header);
     let Checked::Passed = checked else {

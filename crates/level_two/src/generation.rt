@@ -1,6 +1,7 @@
 // The current generation, as a host calls it.
 ghost use mathlib.Core.List.{[]};
-ghost use Rattle.definitions.specs.Arena.{arena, capacityLimit, largestGeneration};
+ghost use Rattle.definitions.specs.Arena.{capacityLimit, largestGeneration};
+ghost use Rattle.definitions.specs.Lent.{atEntry, atExit};
 ghost use Rattle.definitions.specs.Reply.{reply};
 ghost use Rattle.definitions.specs.Calls.{Answers, SetGeneration, IncGeneration};
 use base_freelist::inc_generation;
@@ -27,8 +28,8 @@ pub extern "C" fn chain_arena_set_generation(
     new_generation: u32,
 ) -> GenerationResult
     ensures { λ r. ⌜ Answers capacityLimit largestGeneration (SetGeneration «new_generation»)
-        (arena (now (prev .entry)) (now (next .entry)) (now (generation .entry)) (now (payload .entry)) (now (header .entry))) [] (r .broken)
-        (reply (r .number) [] (arena (now (prev .entry)) (now (next .entry)) (now (generation .entry)) (now (payload .entry)) (now (header .exit))) []) ⌝ }
+        (atEntry prev next generation payload header) [] (r .broken)
+        (reply (r .number) [] (atExit prev next generation payload header) []) ⌝ }
 {
     let checked = check(prev, next, generation, payload, &*header);
     let Checked::Passed = checked else {
@@ -54,8 +55,8 @@ pub extern "C" fn chain_arena_inc_generation(
     header: &mut [u32],
 ) -> GenerationResult
     ensures { λ r. ⌜ Answers capacityLimit largestGeneration IncGeneration
-        (arena (now (prev .entry)) (now (next .entry)) (now (generation .entry)) (now (payload .entry)) (now (header .entry))) [] (r .broken)
-        (reply (r .number) [] (arena (now (prev .entry)) (now (next .entry)) (now (generation .entry)) (now (payload .entry)) (now (header .exit))) []) ⌝ }
+        (atEntry prev next generation payload header) [] (r .broken)
+        (reply (r .number) [] (atExit prev next generation payload header) []) ⌝ }
 {
     let checked = check(prev, next, generation, payload, &*header);
     let Checked::Passed = checked else {

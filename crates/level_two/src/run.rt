@@ -1,6 +1,7 @@
 // A run of many edits under one check, as a host calls it.
 ghost use mathlib.Core.List.{[]};
-ghost use Rattle.definitions.specs.Arena.{arena, capacityLimit, largestGeneration};
+ghost use Rattle.definitions.specs.Arena.{capacityLimit, largestGeneration};
+ghost use Rattle.definitions.specs.Lent.{atEntry, atExit};
 ghost use Rattle.definitions.specs.Reply.{reply};
 ghost use Rattle.definitions.specs.Calls.{Answers, Run};
 use chain_arena::Checked;
@@ -26,8 +27,8 @@ pub extern "C" fn chain_arena_run(
     answers: &mut [u32],
 ) -> RunResult
     ensures { λ r. ⌜ Answers capacityLimit largestGeneration (Run (now (commands .entry)))
-        (arena (now (prev .entry)) (now (next .entry)) (now (generation .entry)) (now (payload .entry)) (now (header .entry))) (now (answers .entry)) (r .broken)
-        (reply (r .number) [] (arena (now (prev .exit)) (now (next .exit)) (now (generation .exit)) (now (payload .exit)) (now (header .exit))) (now (answers .exit))) ⌝ }
+        (atEntry prev next generation payload header) (now (answers .entry)) (r .broken)
+        (reply (r .number) [] (atExit prev next generation payload header) (now (answers .exit))) ⌝ }
 {
     let checked = check(&*prev, &*next, &*generation, &*payload, &*header);
     let Checked::Passed = checked else {
