@@ -2,7 +2,7 @@
 // afterwards'.
 ghost use mathlib.Core.Path.{_≡_};
 ghost use lib.ListN.{length};
-use level_three::canonical::chain_arena_compress_canonical;
+use level_three_compress_canonical::chain_arena_compress_canonical;
 use libc::STDOUT_FILENO;
 
 // One slot on a line, its words in decimal with commas between them.

@@ -5,8 +5,8 @@ use crate::case::word_at;
 use crate::text::write_reply;
 use crate::text::write_slots;
 use crate::text::write_words;
-use level_three::canonical::chain_arena_compress_canonical;
-use level_three::order_preserving::chain_arena_compress_with;
+use level_three_compress_canonical::chain_arena_compress_canonical;
+use level_three_compress_with::chain_arena_compress_with;
 
 // Compresses in slot order, with the report lent.
 fn compress_with(

@@ -3,16 +3,16 @@ use crate::case::slot_at;
 use crate::case::word_at;
 use crate::text::write_reply;
 use crate::text::write_words;
-use level_two::drain::chain_arena_drain;
-use level_two::edits::chain_arena_break_next;
-use level_two::edits::chain_arena_break_prev;
-use level_two::edits::chain_arena_connect;
-use level_two::edits::chain_arena_exchange_next;
-use level_two::edits::chain_arena_remove;
-use level_two::freelist::chain_arena_canonicalize_freelist;
-use level_two::generation::chain_arena_inc_generation;
-use level_two::generation::chain_arena_set_generation;
-use level_two::run::chain_arena_run;
+use level_two_edits::chain_arena_break_next;
+use level_two_edits::chain_arena_break_prev;
+use level_two_edits::chain_arena_connect;
+use level_two_edits::chain_arena_exchange_next;
+use level_two_generation::chain_arena_canonicalize_freelist;
+use level_two_generation::chain_arena_inc_generation;
+use level_two_generation::chain_arena_set_generation;
+use level_two_removal::chain_arena_drain;
+use level_two_removal::chain_arena_remove;
+use level_two_run::chain_arena_run;
 
 // Joins an end to a start.
 fn connect(
@@ -127,7 +127,11 @@ fn remove(
         slot,
         word_at(args, 1),
     );
-    write_reply(r.number, r.broken, &[r.prev, r.next, r.payload]);
+    write_reply(
+        r.answer.number,
+        r.answer.broken,
+        &[r.prev, r.next, r.payload],
+    );
 }
 
 // Drains a chain, with the report lent.
@@ -151,7 +155,7 @@ fn drain(
         word_at(args, 1),
         lent,
     );
-    write_reply(r.number, r.broken, &[r.items, r.overflowed]);
+    write_reply(r.answer.number, r.answer.broken, &[r.items, r.overflowed]);
     write_words(lent);
 }
 

@@ -2,12 +2,12 @@
 use crate::case::slot_at;
 use crate::case::word_at;
 use crate::text::write_reply;
-use level_one::chain_arena_check;
-use level_one::read::chain_arena_are_neighbors;
-use level_one::read::chain_arena_get_link;
-use level_one::read::chain_arena_get_link_no_gen;
-use level_one::walk::chain_arena_walk_start;
-use level_one::walk::chain_arena_walk_step;
+use level_one_check::chain_arena_check;
+use level_one_read::chain_arena_are_neighbors;
+use level_one_read::chain_arena_get_link;
+use level_one_read::chain_arena_get_link_no_gen;
+use level_one_walk::chain_arena_walk_start;
+use level_one_walk::chain_arena_walk_step;
 
 // Whether the arena passes the check.
 fn check(prev: &[u16], next: &[u16], generation: &[u32], payload: &[u32], header: &[u32]) {
@@ -35,8 +35,8 @@ fn get_link(
         word_at(args, 1),
     );
     write_reply(
-        r.number,
-        r.broken,
+        r.answer.number,
+        r.answer.broken,
         &[
             r.prev,
             r.prev_generation,
@@ -66,7 +66,11 @@ fn get_link_no_gen(
         slot,
         word_at(args, 1),
     );
-    write_reply(r.number, r.broken, &[r.prev, r.next, r.payload]);
+    write_reply(
+        r.answer.number,
+        r.answer.broken,
+        &[r.prev, r.next, r.payload],
+    );
 }
 
 // Whether two pointers are neighbours.
@@ -91,7 +95,7 @@ fn are_neighbors(
         after,
         word_at(args, 3),
     );
-    write_reply(r.number, r.broken, &[r.yes]);
+    write_reply(r.answer.number, r.answer.broken, &[r.yes]);
 }
 
 // The start of a walk at a pointer.
@@ -114,8 +118,8 @@ fn walk_start(
         word_at(args, 1),
     );
     write_reply(
-        r.number,
-        r.broken,
+        r.answer.number,
+        r.answer.broken,
         &[r.start, r.position, r.direction, r.left],
     );
 }
@@ -141,8 +145,8 @@ fn walk_step(
         word_at(args, 3),
     );
     write_reply(
-        r.number,
-        r.broken,
+        r.answer.number,
+        r.answer.broken,
         &[
             r.slot,
             r.generation,

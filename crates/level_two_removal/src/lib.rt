@@ -1,0 +1,140 @@
+// Level Two, removal of a link and the drain of a chain, as a host calls them.
+ghost use mathlib.Core.List.{List, [], _∷_};
+ghost use mathlib.Core.Path.{_≡_};
+ghost use Prim.Native.Nat.{ℕ};
+ghost use Rattle.definitions.specs.Arena.{Arena};
+ghost use Rattle.definitions.specs.Lent.{atEntry, atExit};
+ghost use Rattle.definitions.specs.Reply.{reply};
+ghost use Rattle.definitions.specs.Read.{pointer};
+ghost use Rattle.definitions.specs.Calls.{Remove, Drain};
+ghost use Rattle.links.specs.Links.{removalReply};
+ghost use Rattle.chain_drain.specs.Drained.{drainReply};
+ghost use Rattle.answers.specs.Answered.{Answered};
+use answers::Answer;
+use answers::LinkNoGenResult;
+use answers::checked;
+use chain_drain::Drained;
+use chain_drain::drain;
+use chain_edits::remove;
+use links::InvalidationResult;
+use ptr::Gen;
+use ptr::Ptr;
+use ptr::Slot;
+
+// A drain's answer: so many items, and the item, from 1, whose removal overflowed the generation, 0 for none.
+#[repr(C)]
+pub struct DrainResult {
+    pub answer: Answer,
+    pub items: u32,
+    pub overflowed: u32,
+}
+
+// What the host is told of a removal from an arena that passed the check.
+fn remove_result(removed: InvalidationResult) -> LinkNoGenResult
+    ensures { λ r. ⌜ (r .answer .broken ≡ 0) × ((a : Arena) (l : List ℕ) → reply (r .answer .number) (r .prev ∷ r .next ∷ r .payload ∷ []) a l ≡ removalReply removed a l) ⌝ }
+{
+    let answer = Answer::of(removed.number());
+    match removed {
+        InvalidationResult::Success(l) => LinkNoGenResult {
+            answer: answer,
+            prev: l.prev.0 as u32,
+            next: l.next.0 as u32,
+            payload: l.t,
+        },
+        InvalidationResult::GenerationOverflow(l) => LinkNoGenResult {
+            answer: answer,
+            prev: l.prev.0 as u32,
+            next: l.next.0 as u32,
+            payload: l.t,
+        },
+        InvalidationResult::InvalidPtr => LinkNoGenResult {
+            answer: answer,
+            prev: 0,
+            next: 0,
+            payload: 0,
+        },
+    }
+}
+
+// Removes the link at p, and answers what it was.
+#[no_mangle]
+pub extern "C" fn chain_arena_remove(
+    prev: &mut [u16],
+    next: &mut [u16],
+    generation: &mut [u32],
+    payload: &mut [u32],
+    header: &mut [u32],
+    p_slot: u16,
+    p_generation: u32,
+) -> LinkNoGenResult
+    ensures { λ r. ⌜ Answered (Remove (pointer «p_slot» «p_generation»))
+        (atEntry prev next generation payload header) [] (r .answer) (r .prev ∷ r .next ∷ r .payload ∷ []) (atExit prev next generation payload header) [] ⌝ }
+{
+    let answer = checked(&*prev, &*next, &*generation, &*payload, &*header);
+    if answer.number != 0 {
+        return LinkNoGenResult {
+            answer: answer,
+            prev: 0,
+            next: 0,
+            payload: 0,
+        };
+    }
+    let p = Ptr {
+        inx: Slot(p_slot),
+        generation: Gen(p_generation),
+    };
+    remove_result(remove(prev, next, generation, payload, header, p))
+}
+
+// What the host is told of a drain on an arena that passed the check.
+fn drain_result(d: Drained) -> DrainResult
+    ensures { λ r. ⌜ (r .answer .broken ≡ 0) × ((a : Arena) (l : List ℕ) → reply (r .answer .number) (r .items ∷ r .overflowed ∷ []) a l ≡ drainReply d a l) ⌝ }
+{
+    match d {
+        Drained::Done { items, overflowed } => DrainResult {
+            answer: Answer::of(0),
+            items: items,
+            overflowed: overflowed,
+        },
+        Drained::Stale => DrainResult {
+            answer: Answer::of(12),
+            items: 0,
+            overflowed: 0,
+        },
+        Drained::Short => DrainResult {
+            answer: Answer::of(14),
+            items: 0,
+            overflowed: 0,
+        },
+    }
+}
+
+// Removes every link of p's chain, in the order of a walk from p, and reports each as it is at its own removal: slot, generation, prev, next, payload.
+#[no_mangle]
+pub extern "C" fn chain_arena_drain(
+    prev: &mut [u16],
+    next: &mut [u16],
+    generation: &mut [u32],
+    payload: &mut [u32],
+    header: &mut [u32],
+    p_slot: u16,
+    p_generation: u32,
+    report: &mut [u32],
+) -> DrainResult
+    ensures { λ r. ⌜ Answered (Drain (pointer «p_slot» «p_generation»))
+        (atEntry prev next generation payload header) (now (report .entry)) (r .answer) (r .items ∷ r .overflowed ∷ []) (atExit prev next generation payload header) (now (report .exit)) ⌝ }
+{
+    let answer = checked(&*prev, &*next, &*generation, &*payload, &*header);
+    if answer.number != 0 {
+        return DrainResult {
+            answer: answer,
+            items: 0,
+            overflowed: 0,
+        };
+    }
+    let p = Ptr {
+        inx: Slot(p_slot),
+        generation: Gen(p_generation),
+    };
+    drain_result(drain(prev, next, generation, payload, header, p, report))
+}
