@@ -1,4 +1,4 @@
-// Proves the export crate of each level that is asked for as a feature, and links the archive that comes of it.
+// Links the archive of each level that is asked for as a feature; `archives` proves and makes it.
 
 use std::env;
 use std::fs;
@@ -22,45 +22,30 @@ fn stop(message: &str) -> ! {
     exit(0);
 }
 
-/// Proves a level and answers where its archive is.
-fn prove(root: &Path, level: &str) -> PathBuf {
-    let output = match Command::new("rt").arg("staticlib").arg(level).current_dir(root).output() {
+/// Has `archives` prove the named levels and write their archives into the folder.
+fn prove(root: &Path, levels: &[&str], out: &Path) {
+    let output = match Command::new("bash").arg("archives").arg(out).args(levels).current_dir(root).output() {
         Ok(output) => output,
         Err(error) => stop(&format!(
-            "the Rattle toolchain's `rt` could not be run ({error}).\n\
-             It proves crates/{level} and makes the archive that this package links: put it on PATH,\n\
-             or name a folder with a ready lib{level}.a in {READY}."
+            "bash, which makes the archives that this package links, could not be run: {error}"
         )),
     };
     if !output.status.success() {
-        let said = [output.stdout, output.stderr].concat();
-        let said = String::from_utf8_lossy(&said);
-        let lines: Vec<&str> = said.lines().collect();
-        let last = lines[lines.len().saturating_sub(30)..].join("\n");
-        stop(&format!("`rt staticlib {level}` failed; its last lines:\n{last}"));
+        let said = String::from_utf8_lossy(&output.stderr);
+        stop(&format!("{said}`bash archives` failed. A folder with ready archives can be named in {READY}."));
     }
-    root.join("target/staticlib").join(format!("lib{level}.a"))
 }
 
-/// A level's archive: the ready one, else one that is proved now.
-fn archive(level: &str) -> PathBuf {
-    match env::var_os(READY) {
-        Some(folder) => {
-            let ready = PathBuf::from(folder).join(format!("lib{level}.a"));
-            println!("cargo::rerun-if-changed={}", ready.display());
-            ready
+/// Copies a ready archive of each named level into the folder.
+fn copy(ready: &Path, levels: &[&str], out: &Path) {
+    for level in levels {
+        let name = format!("lib{level}.a");
+        let archive = ready.join(&name);
+        println!("cargo::rerun-if-changed={}", archive.display());
+        if let Err(error) = fs::copy(&archive, out.join(&name)) {
+            stop(&format!("{} could not be copied: {error}", archive.display()));
         }
-        None => prove(Path::new(".."), level),
     }
-}
-
-/// Copies a level's archive to where this package's own output goes, and links it from there.
-fn link(archive: &Path, level: &str, out: &Path) {
-    if let Err(error) = fs::copy(archive, out.join(format!("lib{level}.a"))) {
-        stop(&format!("{} could not be copied: {error}", archive.display()));
-    }
-    println!("cargo::rustc-link-lib=static={level}");
-    println!("cargo::metadata={level}=linked");
 }
 
 /// Whether the level is asked for as a feature.
@@ -71,16 +56,22 @@ fn wanted(level: &Level) -> bool {
 fn main() {
     let out = PathBuf::from(env::var_os("OUT_DIR").expect("cargo sets OUT_DIR"));
     println!("cargo::rerun-if-env-changed={READY}");
-    println!("cargo::rerun-if-changed=build.rs");
-    println!("cargo::rerun-if-changed=src/levels.rs");
-    println!("cargo::rerun-if-changed=../crates");
-    println!("cargo::rerun-if-changed=../crates.txt");
+    for read in ["build.rs", "src/levels.rs", "../archives", "../crates", "../crates.txt"] {
+        println!("cargo::rerun-if-changed={read}");
+    }
     println!("cargo::rustc-link-search=native={}", out.display());
     println!("cargo::rustc-env=CHAIN_ARENA_LINKED={}", out.display());
     for level in LEVELS {
         let _ = fs::remove_file(out.join(format!("lib{}.a", level.name)));
-        if wanted(level) {
-            link(&archive(level.name), level.name, &out);
-        }
+    }
+    let levels: Vec<&str> = LEVELS.iter().filter(|level| wanted(level)).map(|level| level.name).collect();
+    match env::var_os(READY) {
+        Some(ready) => copy(Path::new(&ready), &levels, &out),
+        None if levels.is_empty() => {}
+        None => prove(Path::new(".."), &levels, &out),
+    }
+    for level in levels {
+        println!("cargo::rustc-link-lib=static={level}");
+        println!("cargo::metadata={level}=linked");
     }
 }

@@ -1,4 +1,4 @@
-/* The proved calls of the chain arena, for C. The archives are made by `rt staticlib` (x86-64).
+/* The proved calls of the chain arena, for C. `bash archives OUT` writes the archives (x86-64 Linux) into the folder OUT.
  *
  * An arena is lent as five slices, each a pointer and an element count. Slot s is at place s - 1 of the four columns:
  *   prev, next   each link's neighbours, 0 for none; in a free slot next holds the freelist pointer

@@ -1,8 +1,8 @@
 // The levels that are sold. build.rs, the library and the tests all read this list.
 
-/// A level: the crate of exports under crates/, which is also the archive's name, and the names that it exports.
+/// A level: its archive, which is made from the crates of exports whose names begin with its own, and the names that it exports.
 pub struct Level {
-    /// The crate and archive
+    /// The archive
     pub name: &'static str,
     /// Every name that the archive exports, and no others
     pub exports: &'static [&'static str],

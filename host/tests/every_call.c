@@ -1,90 +1,171 @@
-/* Makes every call of the levels that are asked for, and prints every word that it answers. */
+/* Makes every call of the levels that are asked for, on an arena that passes the check and on one that rule 11 refuses, and prints every word that it
+ * answers and leaves.
+ *
+ * With the words CALL KIND I J it makes that call alone, with its arguments I and J of a kind exchanged: as if the archive had these two parameters the
+ * other way round. The kinds: 0 slices of slots, 1 slices of words, 2 slots, 3 words. It ends with status 2 if the call has no such arguments. */
 #include "chain_arena.h"
 #include <stdio.h>
+#include <stdlib.h>
+#include <string.h>
 
-/* The chain 1 -> 2, the lone link 4, and the free slot 3. */
-#define SAMPLE                                                              \
-    uint16_t prev[5] = {0, 1, 99, 0, 99}, next[5] = {2, 0, 3, 0, 99};       \
-    uint32_t generation[5] = {5, 6, 0, 7, 99}, payload[5] = {10, 20, 99, 40, 99}, header[4] = {4, 3, 3, 8}
+typedef struct { uint16_t *at; size_t len; } slots;
+typedef struct { uint32_t *at; size_t len; } words;
 
-#define ARENA prev, 5, next, 5, generation, 5, payload, 5, header, 4
+/* The arguments of a call: first prev and next, then a where-from column; first generation, payload and header, then what else is lent. */
+typedef struct { slots column[3]; words slice[5]; uint16_t slot[2]; uint32_t word[4]; } arguments;
 
-static void plain(const char *call, chain_arena_plain_result r) { printf("%s %u %u\n", call, r.number, r.broken); }
+#define SLOTS(k) a->column[k].at, a->column[k].len
+#define WORDS(k) a->slice[k].at, a->slice[k].len
+#define ARENA SLOTS(0), SLOTS(1), WORDS(0), WORDS(1), WORDS(2)
+#define POINTER(k) a->slot[k], a->word[k]
 
-static void words(const uint32_t *word, int count) {
-    for (int k = 0; k < count; k++) printf(" %u", word[k]);
-    printf("\n");
-}
+#define ANSWER(r) printf(" number %u broken %u", (r).number, (r).broken)
+#define FIELD(r, name) printf(" " #name " %u", (r).name)
+#define PLAIN(call) do { chain_arena_plain_result r = call; ANSWER(r); } while (0)
 
 #ifdef LEVEL_ONE
-static void level_one(void) {
-    SAMPLE;
-    plain("check", chain_arena_check(ARENA));
-    next[0] = 0;
-    plain("check", chain_arena_check(ARENA));
-    next[0] = 2;
-    chain_arena_link_result link = chain_arena_get_link(ARENA, 2, 6);
-    printf("get_link %u %u %u %u %u %u %u\n", link.number, link.broken, link.prev, link.prev_generation, link.next,
-           link.next_generation, link.payload);
-    chain_arena_link_no_gen_result no_gen = chain_arena_get_link_no_gen(ARENA, 1, 5);
-    printf("get_link_no_gen %u %u %u %u %u\n", no_gen.number, no_gen.broken, no_gen.prev, no_gen.next, no_gen.payload);
-    chain_arena_neighbors_result yes = chain_arena_are_neighbors(ARENA, 1, 5, 2, 6);
-    printf("are_neighbors %u %u %u\n", yes.number, yes.broken, yes.yes);
-    chain_arena_walk_result walk = chain_arena_walk_start(ARENA, 2, 6);
-    printf("walk_start %u %u %u %u %u %u\n", walk.number, walk.broken, walk.start, walk.position, walk.direction, walk.left);
-    chain_arena_step_result step = chain_arena_walk_step(ARENA, 2, 2, 0, 3);
-    printf("walk_step %u %u %u %u %u %u %u %u\n", step.number, step.broken, step.slot, step.generation, step.start,
-           step.position, step.direction, step.left);
-    words(header, 4);
+static void check(arguments *a) { PLAIN(chain_arena_check(ARENA)); }
+
+static void get_link(arguments *a) {
+    chain_arena_link_result r = chain_arena_get_link(ARENA, POINTER(0));
+    ANSWER(r); FIELD(r, prev); FIELD(r, prev_generation); FIELD(r, next); FIELD(r, next_generation); FIELD(r, payload);
+}
+
+static void get_link_no_gen(arguments *a) {
+    chain_arena_link_no_gen_result r = chain_arena_get_link_no_gen(ARENA, POINTER(0));
+    ANSWER(r); FIELD(r, prev); FIELD(r, next); FIELD(r, payload);
+}
+
+static void are_neighbors(arguments *a) {
+    chain_arena_neighbors_result r = chain_arena_are_neighbors(ARENA, POINTER(0), POINTER(1));
+    ANSWER(r); FIELD(r, yes);
+}
+
+static void walk_start(arguments *a) {
+    chain_arena_walk_result r = chain_arena_walk_start(ARENA, POINTER(0));
+    ANSWER(r); FIELD(r, start); FIELD(r, position); FIELD(r, direction); FIELD(r, left);
+}
+
+static void walk_step(arguments *a) {
+    chain_arena_step_result r = chain_arena_walk_step(ARENA, a->word[0], a->word[1], a->word[2], a->word[3]);
+    ANSWER(r); FIELD(r, slot); FIELD(r, generation); FIELD(r, start); FIELD(r, position); FIELD(r, direction); FIELD(r, left);
 }
 #endif
 
 #ifdef LEVEL_TWO
-static void level_two(void) {
-    SAMPLE;
-    plain("connect", chain_arena_connect(ARENA, 2, 6, 4, 7));
-    plain("exchange_next", chain_arena_exchange_next(ARENA, 1, 5, 2, 6));
-    plain("break_prev", chain_arena_break_prev(ARENA, 4, 7));
-    plain("break_next", chain_arena_break_next(ARENA, 2, 6));
-    chain_arena_link_no_gen_result removed = chain_arena_remove(ARENA, 2, 6);
-    printf("remove %u %u %u %u %u\n", removed.number, removed.broken, removed.prev, removed.next, removed.payload);
-    plain("canonicalize_freelist", chain_arena_canonicalize_freelist(ARENA));
-    plain("inc_generation", chain_arena_inc_generation(ARENA));
-    plain("set_generation", chain_arena_set_generation(ARENA, 1));
-    uint32_t commands[10] = {1, 1, 5, 4, 7, 5, 9, 9, 9, 9}, answers[2] = {9, 9};
-    plain("run", chain_arena_run(ARENA, commands, 10, answers, 2));
-    words(answers, 2);
-    uint32_t report[10] = {0};
-    chain_arena_drain_result drained = chain_arena_drain(ARENA, 4, 7, report, 10);
-    printf("drain %u %u %u %u\n", drained.number, drained.broken, drained.items, drained.overflowed);
-    words(report, 10);
-    words(header, 4);
+static void connect(arguments *a) { PLAIN(chain_arena_connect(ARENA, POINTER(0), POINTER(1))); }
+static void break_prev(arguments *a) { PLAIN(chain_arena_break_prev(ARENA, POINTER(0))); }
+static void break_next(arguments *a) { PLAIN(chain_arena_break_next(ARENA, POINTER(0))); }
+static void exchange_next(arguments *a) { PLAIN(chain_arena_exchange_next(ARENA, POINTER(0), POINTER(1))); }
+
+static void remove_link(arguments *a) {
+    chain_arena_link_no_gen_result r = chain_arena_remove(ARENA, POINTER(0));
+    ANSWER(r); FIELD(r, prev); FIELD(r, next); FIELD(r, payload);
 }
+
+static void drain(arguments *a) {
+    chain_arena_drain_result r = chain_arena_drain(ARENA, POINTER(0), WORDS(3));
+    ANSWER(r); FIELD(r, items); FIELD(r, overflowed);
+}
+
+static void set_generation(arguments *a) { PLAIN(chain_arena_set_generation(ARENA, a->word[0])); }
+static void inc_generation(arguments *a) { PLAIN(chain_arena_inc_generation(ARENA)); }
+static void canonicalize_freelist(arguments *a) { PLAIN(chain_arena_canonicalize_freelist(ARENA)); }
+static void run(arguments *a) { PLAIN(chain_arena_run(ARENA, WORDS(3), WORDS(4))); }
 #endif
 
 #ifdef LEVEL_THREE
-static void level_three(void) {
-    uint16_t prev[5] = {0, 4, 99, 0, 99}, next[5] = {0, 0, 3, 2, 99}, from[5] = {7, 7, 7, 7, 7};
-    uint32_t generation[5] = {5, 6, 0, 7, 99}, payload[5] = {10, 20, 99, 40, 99}, header[4] = {4, 3, 3, 4294967295u};
-    uint32_t report[12] = {0};
-    plain("compress_with", chain_arena_compress_with(ARENA, 0, report, 12));
-    words(report, 12);
-    plain("compress_canonical", chain_arena_compress_canonical(ARENA, 1, from, 5));
-    for (int k = 0; k < 5; k++) printf(" %u", from[k]);
-    printf("\n");
-    words(payload, 4);
-}
+static void compress_with(arguments *a) { PLAIN(chain_arena_compress_with(ARENA, a->word[0], WORDS(3))); }
+static void compress_canonical(arguments *a) { PLAIN(chain_arena_compress_canonical(ARENA, a->word[0], SLOTS(2))); }
 #endif
 
-int main(void) {
+/* A call: its name, how many arguments of each kind it has, the slots and words among them, and the words of the first slice that it is lent beside the
+ * arena. */
+typedef struct {
+    const char *name;
+    void (*make)(arguments *);
+    int count[4];
+    uint16_t slot[2];
+    uint32_t word[4];
+    size_t lent;
+    uint32_t first[16];
+} call;
+
+static const call calls[] = {
 #ifdef LEVEL_ONE
-    level_one();
+    {"check", check, {2, 3, 0, 0}, {0}, {0}, 0, {0}},
+    {"get_link", get_link, {2, 3, 1, 1}, {2}, {6}, 0, {0}},
+    {"get_link_no_gen", get_link_no_gen, {2, 3, 1, 1}, {2}, {6}, 0, {0}},
+    {"are_neighbors", are_neighbors, {2, 3, 2, 2}, {1, 2}, {5, 6}, 0, {0}},
+    {"walk_start", walk_start, {2, 3, 1, 1}, {2}, {6}, 0, {0}},
+    {"walk_step", walk_step, {2, 3, 0, 4}, {0}, {2, 4, 0, 3}, 0, {0}},
 #endif
 #ifdef LEVEL_TWO
-    level_two();
+    {"connect", connect, {2, 3, 2, 2}, {4, 5}, {7, 9}, 0, {0}},
+    {"break_prev", break_prev, {2, 3, 1, 1}, {4}, {7}, 0, {0}},
+    {"break_next", break_next, {2, 3, 1, 1}, {1}, {5}, 0, {0}},
+    {"exchange_next", exchange_next, {2, 3, 2, 2}, {1, 2}, {5, 6}, 0, {0}},
+    {"remove", remove_link, {2, 3, 1, 1}, {2}, {6}, 0, {0}},
+    {"drain", drain, {2, 4, 1, 1}, {2}, {6}, 16, {0}},
+    {"set_generation", set_generation, {2, 3, 0, 1}, {0}, {12}, 0, {0}},
+    {"inc_generation", inc_generation, {2, 3, 0, 0}, {0}, {0}, 0, {0}},
+    {"canonicalize_freelist", canonicalize_freelist, {2, 3, 0, 0}, {0}, {0}, 0, {0}},
+    {"run", run, {2, 5, 0, 0}, {0}, {0}, 10, {1, 4, 7, 5, 9, 5, 2, 6, 0, 0}},
 #endif
 #ifdef LEVEL_THREE
-    level_three();
+    {"compress_with", compress_with, {2, 4, 0, 1}, {0}, {1}, 16, {0}},
+    {"compress_canonical", compress_canonical, {3, 3, 0, 1}, {0}, {1}, 0, {0}},
 #endif
+};
+
+#define EXCHANGE(array, i, j) do { memcpy(kept, &(array)[i], sizeof (array)[i]); (array)[i] = (array)[j]; memcpy(&(array)[j], kept, sizeof (array)[j]); } while (0)
+
+/* Exchanges the arguments i and j of a kind. */
+static void exchange(arguments *a, int kind, int i, int j) {
+    unsigned char kept[16];
+    if (kind == 0) EXCHANGE(a->column, i, j);
+    if (kind == 1) EXCHANGE(a->slice, i, j);
+    if (kind == 2) EXCHANGE(a->slot, i, j);
+    if (kind == 3) EXCHANGE(a->word, i, j);
+}
+
+/* Makes the call with two arguments exchanged (the same one twice: with none), on the chain 1 -> 2 -> 4, the lone link 5 and the free slot 3, or on the same
+ * with a prev that the link does not have. */
+static void make(const call *c, int broken, int kind, int i, int j) {
+    uint16_t prev[6] = {0, 1, 99, 2, 0, 99}, next[6] = {2, 4, 3, 0, 0, 99}, where_from[6] = {77, 77, 77, 77, 77, 77};
+    uint32_t generation[6] = {5, 6, 0, 7, 9, 99}, payload[6] = {10, 20, 99, 40, 50, 99}, header[4] = {5, 4, 3, 11};
+    uint32_t first[16], answers[2] = {88, 88};
+    memcpy(first, c->first, sizeof first);
+    if (broken) prev[4] = 1;
+    arguments a = {{{prev, 6}, {next, 6}, {where_from, 6}},
+                   {{generation, 6}, {payload, 6}, {header, 4}, {first, c->lent}, {answers, 2}},
+                   {c->slot[0], c->slot[1]},
+                   {c->word[0], c->word[1], c->word[2], c->word[3]}};
+    exchange(&a, kind, i, j);
+    printf("%s", c->name);
+    c->make(&a);
+    printf("\n");
+    exchange(&a, kind, i, j);
+    for (int k = 0; k < c->count[0]; k++) {
+        for (size_t n = 0; n < a.column[k].len; n++) printf(" %u", a.column[k].at[n]);
+        printf(k + 1 < c->count[0] ? " |" : "\n");
+    }
+    for (int k = 0; k < c->count[1]; k++) {
+        for (size_t n = 0; n < a.slice[k].len; n++) printf(" %u", a.slice[k].at[n]);
+        printf(k + 1 < c->count[1] ? " |" : "\n");
+    }
+}
+
+int main(int argc, char **argv) {
+    for (size_t k = 0; k < sizeof calls / sizeof *calls; k++) {
+        int kind = 0, i = 0, j = 0;
+        if (argc == 5) {
+            if (strcmp(argv[1], calls[k].name) != 0) continue;
+            kind = atoi(argv[2]), i = atoi(argv[3]), j = atoi(argv[4]);
+            if (kind > 3 || i >= calls[k].count[kind] || j >= calls[k].count[kind]) return 2;
+        }
+        make(&calls[k], 0, kind, i, j);
+        make(&calls[k], 1, kind, i, j);
+    }
     return 0;
 }

@@ -1,85 +1,116 @@
-//! include/chain_arena.h declares the calls as the archives have them: every_call.c makes each one and prints every word
-//! that it answers. The README's example for C is tried too.
+//! include/chain_arena.h declares the calls as the archives have them: every_call.c makes each one and prints every word that it answers and leaves. Any two
+//! arguments of one type, exchanged, are seen in what it prints, and so are any two fields of a result. The README's example for C is tried too.
 
 use std::path::{Path, PathBuf};
-use std::process::Command;
+use std::process::{Command, Output};
+use std::sync::LazyLock;
 
-const LEVEL_ONE: &str = "\
-check 0 0
-check 11 2
-get_link 0 0 1 5 0 0 20
-get_link_no_gen 0 0 0 2 10
-are_neighbors 0 0 1
-walk_start 0 0 2 2 0 3
-walk_step 0 0 2 6 2 1 1 2
- 4 3 3 8
-";
+/// Each level: whether it is linked, the options that a C program takes for it, and what every_call.c prints of it.
+const LEVELS: [(bool, [&str; 2], &str); 3] = [
+    (cfg!(feature = "level-one"), ["-DLEVEL_ONE", "-llevel_one"], include_str!("every_call/level_one.txt")),
+    (cfg!(feature = "level-two"), ["-DLEVEL_TWO", "-llevel_two"], include_str!("every_call/level_two.txt")),
+    (
+        cfg!(feature = "level-three"),
+        ["-DLEVEL_THREE", "-llevel_three"],
+        include_str!("every_call/level_three.txt"),
+    ),
+];
 
-const LEVEL_TWO: &str = "\
-connect 0 0
-exchange_next 0 0
-break_prev 0 0
-break_next 0 0
-remove 0 0 0 0 20
-canonicalize_freelist 0 0
-inc_generation 0 0
-set_generation 15 0
-run 0 0
- 0 12
-drain 0 0 2 0
- 4 7 1 0 40 1 5 0 0 10
- 3 0 1 12
-";
+/// Fields that every reply of a call has alike, so that no reply can show their places: a walk's position begins at its start.
+const ALIKE: [(&str, &str, &str); 1] = [("walk_start", "start", "position")];
 
-const LEVEL_THREE: &str = "\
-compress_with 100 0
- 1 5 1 2 2 6 2 2 4 7 3 2
-compress_canonical 0 0
- 1 3 2 7 7
- 10 40 20 0
-";
+/// The program that makes every call.
+static EVERY_CALL: LazyLock<PathBuf> =
+    LazyLock::new(|| compiled(&package().join("tests/every_call.c"), "every_call"));
 
 /// The folder of the package.
 fn package() -> PathBuf {
     PathBuf::from(env!("CARGO_MANIFEST_DIR"))
 }
 
-/// Compiles a C program with the levels that are linked, warnings being errors, and answers what it prints.
-fn printed(source: &Path, name: &str) -> String {
+/// Compiles a C program with the levels that are linked, warnings being errors, and answers where it is.
+fn compiled(source: &Path, name: &str) -> PathBuf {
     let program = Path::new(env!("CARGO_TARGET_TMPDIR")).join(name);
     let mut command = Command::new("cc");
     command
         .args(["-std=c99", "-Wall", "-Wextra", "-Werror", "-pedantic", "-I"])
         .arg(package().join("../include"));
     command.arg(source).arg("-o").arg(&program).arg("-L").arg(env!("CHAIN_ARENA_LINKED"));
-    for (linked, options) in [
-        (cfg!(feature = "level-one"), ["-DLEVEL_ONE", "-llevel_one"]),
-        (cfg!(feature = "level-two"), ["-DLEVEL_TWO", "-llevel_two"]),
-        (cfg!(feature = "level-three"), ["-DLEVEL_THREE", "-llevel_three"]),
-    ] {
-        if linked {
-            command.args(options);
-        }
+    for (_, options, _) in LEVELS.iter().filter(|(linked, ..)| *linked) {
+        command.args(options);
     }
     assert!(command.status().expect("the C compiler, cc").success(), "{} was not compiled", source.display());
-    let output = Command::new(&program).output().unwrap();
-    assert!(output.status.success(), "{name} ended with {}", output.status);
+    program
+}
+
+/// What a program prints.
+fn text(output: Output) -> String {
+    assert!(output.status.success(), "it ended with {}", output.status);
     String::from_utf8(output.stdout).unwrap()
+}
+
+/// What every_call prints, call by call: the call's name, and its lines.
+fn calls() -> Vec<(String, String)> {
+    let mut calls: Vec<(String, String)> = Vec::new();
+    for line in text(Command::new(&*EVERY_CALL).output().unwrap()).lines() {
+        let name = line.split(' ').next().unwrap_or_default();
+        if !name.is_empty() && calls.last().is_none_or(|(last, _)| last != name) {
+            calls.push((name.to_string(), String::new()));
+        }
+        calls.last_mut().expect("a call's name comes first").1 += &format!("{line}\n");
+    }
+    calls
+}
+
+/// The fields of each reply among a call's lines: name and value.
+fn replies(lines: &str) -> Vec<Vec<(&str, &str)>> {
+    let replies = lines.lines().filter(|line| !line.starts_with(' '));
+    let fields = replies.map(|line| line.split(' ').skip(1).collect::<Vec<_>>());
+    fields.map(|words| words.chunks(2).map(|pair| (pair[0], pair[1])).collect()).collect()
 }
 
 #[test]
 fn a_c_program_makes_every_call() {
-    let mut expected = String::new();
-    for (linked, words) in [
-        (cfg!(feature = "level-one"), LEVEL_ONE),
-        (cfg!(feature = "level-two"), LEVEL_TWO),
-        (cfg!(feature = "level-three"), LEVEL_THREE),
-    ] {
-        if linked {
-            expected += words;
+    let linked = LEVELS.iter().filter(|(linked, ..)| *linked);
+    let expected: String = linked.map(|(_, _, printed)| *printed).collect();
+    assert_eq!(calls().into_iter().map(|(_, lines)| lines).collect::<String>(), expected);
+}
+
+#[test]
+fn any_two_arguments_of_one_type_exchanged_are_seen() {
+    for (name, lines) in calls() {
+        let mut seen = 0;
+        for kind in 0..4 {
+            for (i, j) in (1..5).flat_map(|j| (0..j).map(move |i| (i, j))) {
+                let words = [name.clone(), kind.to_string(), i.to_string(), j.to_string()];
+                let output = Command::new(&*EVERY_CALL).args(&words).output().unwrap();
+                if output.status.code() != Some(2) {
+                    assert_ne!(text(output), lines, "{name}: arguments {i} and {j} of kind {kind}");
+                    seen += 1;
+                }
+            }
+        }
+        assert!(seen >= 4, "{name}: prev and next, and any two of generation, payload and header");
+    }
+}
+
+#[test]
+fn any_two_fields_exchanged_are_seen() {
+    for (name, lines) in calls() {
+        let replies = replies(&lines);
+        let fields: Vec<&str> = replies[0].iter().map(|(field, _)| *field).collect();
+        assert_eq!(fields[..2], ["number", "broken"], "{name}");
+        for (i, j) in (0..fields.len()).flat_map(|j| (0..j).map(move |i| (i, j))) {
+            let seen = replies.iter().any(|reply| reply[i].1 != reply[j].1);
+            assert_eq!(
+                seen,
+                !ALIKE.contains(&(&*name, fields[i], fields[j])),
+                "{name}: {} and {}",
+                fields[i],
+                fields[j]
+            );
         }
     }
-    assert_eq!(printed(&package().join("tests/every_call.c"), "every_call"), expected);
 }
 
 #[cfg(feature = "level-three")]
@@ -90,5 +121,5 @@ fn the_example_of_the_readme_runs() {
     let (example, _) = example.split_once("```").expect("the example's end");
     let source = Path::new(env!("CARGO_TARGET_TMPDIR")).join("readme.c");
     std::fs::write(&source, example).unwrap();
-    assert_eq!(printed(&source, "readme"), "0: 1 5 3 4 2\n");
+    assert_eq!(text(Command::new(compiled(&source, "readme")).output().unwrap()), "0: 1 5 3 4 2\n");
 }

@@ -22,3 +22,37 @@ fn every_link_leads_to_a_file() {
         }
     }
 }
+
+#[test]
+fn every_edit_is_named_beside_its_function() {
+    let root = Path::new(env!("CARGO_MANIFEST_DIR")).join("..");
+    let text = fs::read_to_string(root.join("docs/PROMISES.md")).unwrap();
+    let mut named = 0;
+    for folder in fs::read_dir(root.join("crates")).unwrap().map(|entry| entry.unwrap().path()) {
+        let Ok(edits) = fs::read_dir(folder.join("must-fail")) else { continue };
+        let owner = folder.file_name().unwrap().to_str().unwrap();
+        for edit in edits.map(|entry| entry.unwrap().path()) {
+            let label = edit.file_stem().unwrap().to_str().unwrap();
+            let (function, what) = label.split_once("__").expect("FUNCTION__what_is_wrong.edit");
+            let (function, what) =
+                (format!("| `{function}` |"), format!(" {owner}: {}", what.replace('_', " ")));
+            let row = text.lines().find(|line| line.contains(&function));
+            let row = row.unwrap_or_else(|| panic!("PROMISES has no row for {function} {what}"));
+            let edits = row.rsplit(" |").nth(1).unwrap_or_default();
+            assert!(
+                edits.split(',').any(|edit| edit.ends_with(&what)),
+                "{function} does not name the edit{what}"
+            );
+            named += 1;
+        }
+    }
+    let mut listed = 0;
+    let mut inside = false;
+    for line in text.lines() {
+        inside = line.starts_with('|') && (inside || line.contains("| edits (crate: what is wrong) |"));
+        if inside && !line.contains("(crate: what is wrong)") {
+            listed += line.rsplit(" |").nth(1).unwrap_or_default().matches(": ").count();
+        }
+    }
+    assert_eq!(listed, named, "PROMISES names edits that are not there");
+}

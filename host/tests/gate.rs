@@ -1,0 +1,129 @@
+//! The gate's script says 'N passed, 0 failed' last, and only if every step passed. It is tried with stand-ins for the tools that it calls.
+
+use std::fs;
+use std::os::unix::fs::{PermissionsExt, symlink};
+use std::path::{Path, PathBuf};
+use std::process::Command;
+
+/// What the toolchain's own gate says last.
+const VERDICT: &str = "3 passed, 0 failed";
+
+/// The tools that the gate asks for beside `rt` and `cargo`.
+const OTHERS: [&str; 3] = ["ar", "nm", "cc"];
+
+/// A folder with the gate's script, a stand-in for `archives`, and one for each tool; `fails` names the step that fails.
+struct Stage {
+    folder: PathBuf,
+}
+
+impl Stage {
+    fn new(name: &str, fails: &str, ci: &str) -> Stage {
+        let folder = Path::new(env!("CARGO_TARGET_TMPDIR")).join(format!("gate_{name}"));
+        let _ = fs::remove_dir_all(&folder);
+        fs::create_dir_all(folder.join("repository/.ci")).unwrap();
+        fs::create_dir_all(folder.join("tools")).unwrap();
+        fs::copy(Path::new(env!("CARGO_MANIFEST_DIR")).join("../.ci/run"), folder.join("repository/.ci/run"))
+            .unwrap();
+        let stage = Stage { folder };
+        // a step writes its words down, and whether the folder of ready archives is still named
+        let step = |words: &str| {
+            format!(
+                "#!/usr/bin/env bash\necho \"{words}${{CHAIN_ARENA_ARCHIVES:+ with ready archives}}\" >> {}\n{}\n[[ \"{words}\" != {fails} ]]\n",
+                stage.folder.join("steps").display(),
+                if words.starts_with("rt") {
+                    format!("[[ \"$1\" != ci ]] || printf 'all proved\\n{ci}\\n'")
+                } else {
+                    String::new()
+                },
+            )
+        };
+        stage.script("repository/archives", &step("archives $*"));
+        stage.script("tools/rt", &step("rt $*"));
+        stage.script("tools/cargo", &step("cargo $*"));
+        for tool in OTHERS {
+            stage.script(&format!("tools/{tool}"), "#!/usr/bin/env bash\n");
+        }
+        for tool in ["bash", "env", "dirname", "mktemp", "tee", "sed", "tail", "rm"] {
+            let found = ["/bin", "/usr/bin"]
+                .iter()
+                .map(|folder| Path::new(folder).join(tool))
+                .find(|path| path.exists());
+            symlink(
+                found.unwrap_or_else(|| panic!("{tool} is missing")),
+                stage.folder.join("tools").join(tool),
+            )
+            .unwrap();
+        }
+        stage
+    }
+
+    /// Writes a script that can be run.
+    fn script(&self, name: &str, text: &str) {
+        let path = self.folder.join(name);
+        fs::write(&path, text).unwrap();
+        fs::set_permissions(&path, fs::Permissions::from_mode(0o755)).unwrap();
+    }
+
+    /// Runs the gate: whether it passed, its last line, and the steps that were tried.
+    fn run(&self) -> (bool, String, Vec<String>) {
+        let mut command = Command::new("bash");
+        command.arg(self.folder.join("repository/.ci/run"));
+        let output = command
+            .env("PATH", self.folder.join("tools"))
+            .env("CHAIN_ARENA_ARCHIVES", "a folder")
+            .output()
+            .unwrap();
+        let said = String::from_utf8(output.stdout).unwrap();
+        let last = said.lines().last().unwrap_or_default().to_string();
+        let steps = fs::read_to_string(self.folder.join("steps")).unwrap_or_default();
+        (output.status.success(), last, steps.lines().map(str::to_string).collect())
+    }
+}
+
+const STEPS: [&str; 5] = [
+    "rt fmt --check",
+    "rt ci",
+    "archives build/archives",
+    "cargo test --workspace --offline --quiet",
+    "cargo run --offline --quiet -p oracle --bin compare",
+];
+
+#[test]
+fn every_step_is_made_and_the_verdict_comes_last() {
+    let (passed, last, steps) = Stage::new("whole", "nothing", VERDICT).run();
+    assert!(passed);
+    assert_eq!(last, VERDICT);
+    assert_eq!(steps, STEPS);
+}
+
+#[test]
+fn a_step_that_fails_ends_the_gate_with_another_line() {
+    for (k, words) in STEPS.iter().enumerate() {
+        let (passed, last, steps) = Stage::new(&format!("step_{k}"), &format!("\"{words}\""), VERDICT).run();
+        assert!(!passed, "{words}");
+        assert!(last.starts_with(".ci/run: "), "{words}: {last}");
+        assert_eq!(steps, STEPS[..=k], "{words}");
+    }
+}
+
+#[test]
+fn a_verdict_that_does_not_say_0_failed_is_not_passed_on() {
+    for (k, verdict) in ["3 passed, 1 failed", "3 passed, 0 failed?", "3 passed", ""].iter().enumerate() {
+        let (passed, last, steps) = Stage::new(&format!("verdict_{k}"), "nothing", verdict).run();
+        assert!(!passed, "{verdict}");
+        assert!(last.starts_with(".ci/run: "), "{verdict}: {last}");
+        assert_eq!(steps, STEPS[..2], "{verdict}");
+    }
+}
+
+#[test]
+fn without_a_tool_nothing_passes() {
+    for tool in ["rt", "cargo"].iter().chain(&OTHERS) {
+        let stage = Stage::new(&format!("without_{tool}"), "nothing", VERDICT);
+        fs::remove_file(stage.folder.join("tools").join(tool)).unwrap();
+        let (passed, last, steps) = stage.run();
+        assert!(!passed, "{tool}");
+        assert!(last.starts_with(&format!(".ci/run: {tool} was not found")), "{tool}: {last}");
+        assert!(steps.is_empty(), "{tool}");
+    }
+}

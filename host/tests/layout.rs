@@ -1,0 +1,185 @@
+//! The exports in Rattle, the C header and the Rust declarations say the same of every call: the same parameters and the same fields of its result, by name
+//! and type, in the same order. The proofs do not hold these places, so a fault is planted for each export: any two parameters, and any two fields, of one
+//! type exchanged in the Rattle source are found.
+
+use std::fs;
+use std::path::{Path, PathBuf};
+
+use chain_arena::levels::LEVELS;
+
+/// A parameter or a field: its name, and its type as Rust has it.
+type Place = (String, String);
+
+/// What is declared of a call: its parameters, a slice as pointer and count, and the fields of its result.
+#[derive(Debug, PartialEq)]
+struct Declared {
+    parameters: Vec<Place>,
+    fields: Vec<Place>,
+}
+
+fn root() -> PathBuf {
+    Path::new(env!("CARGO_MANIFEST_DIR")).join("..")
+}
+
+fn read(name: &str) -> String {
+    fs::read_to_string(root().join(name)).unwrap_or_else(|error| panic!("{name}: {error}"))
+}
+
+/// The Rattle source of what is exported, and of the results that exports share.
+fn rattle() -> String {
+    let list = read("crates.txt");
+    let crates = list.lines().filter_map(|line| line.split_once(':')).map(|(name, _)| name);
+    let sold = |name: &&str| LEVELS.iter().any(|level| name.starts_with(&format!("{}_", level.name)));
+    crates
+        .filter(|name| *name == "answers" || sold(name))
+        .map(|name| read(&format!("crates/{name}/src/lib.rt")))
+        .collect()
+}
+
+/// The text between two marks, the first of which stands behind a start.
+fn between<'a>(text: &'a str, start: &str, end: &str) -> &'a str {
+    let at = text.find(start).unwrap_or_else(|| panic!("{start} is not declared")) + start.len();
+    let rest = &text[at..];
+    &rest[..rest.find(end).unwrap_or_else(|| panic!("{start} has no end"))]
+}
+
+/// The items of a list with commas or semicolons.
+fn items(list: &str) -> Vec<&str> {
+    list.split([',', ';']).map(str::trim).filter(|item| !item.is_empty()).collect()
+}
+
+/// `name: type` as a place.
+fn named(item: &str) -> Place {
+    let (name, of) =
+        item.trim_start_matches("pub ").split_once(": ").unwrap_or_else(|| panic!("{item} has no type"));
+    (name.to_string(), of.to_string())
+}
+
+/// A Rattle or Rust parameter as it crosses: a slice is a pointer and a count.
+fn crossing(item: &str) -> Vec<Place> {
+    let (name, of) = named(item);
+    let slice = |pointer: &str, element: &str| {
+        vec![(name.clone(), format!("*{pointer} {element}")), (format!("{name}_len"), "usize".to_string())]
+    };
+    if let Some(element) = of.strip_prefix("&mut [") {
+        slice("mut", element.trim_end_matches(']'))
+    } else if let Some(element) = of.strip_prefix("&[") {
+        slice("const", element.trim_end_matches(']'))
+    } else {
+        vec![(name, of)]
+    }
+}
+
+/// The name of a call's result: what stands behind its arrow, up to the line's end.
+fn result<'a>(text: &'a str, call: &str) -> &'a str {
+    let (_, behind) =
+        text.split_once(&format!("fn {call}(")).unwrap_or_else(|| panic!("{call} is not declared"));
+    between(behind, ") -> ", "\n").trim_end_matches(';')
+}
+
+/// The fields of a Rattle or Rust struct; those of the answer that a result begins with are its own.
+fn fields(text: &str, of: &str) -> Vec<Place> {
+    let declared = items(between(text, &format!("pub struct {of} {{"), "}")).into_iter().map(named);
+    declared
+        .flat_map(|place| if place.1 == "Answer" { fields(text, "Answer") } else { vec![place] })
+        .collect()
+}
+
+/// What a Rattle or a Rust text declares.
+fn of_rust(text: &str, call: &str) -> Declared {
+    let parameters =
+        items(between(text, &format!("fn {call}("), ")")).into_iter().flat_map(crossing).collect();
+    Declared { parameters, fields: fields(text, result(text, call)) }
+}
+
+/// A parameter or a field of C.
+fn of_c_item(item: &str) -> Place {
+    let (of, name) = item.rsplit_once([' ', '*']).unwrap_or_else(|| panic!("{item} has no name"));
+    let pointer = item.contains('*');
+    let element = of.trim_start_matches("const ").trim();
+    let element = match element.trim_end_matches('*').trim() {
+        "uint16_t" => "u16",
+        "uint32_t" => "u32",
+        "size_t" => "usize",
+        other => panic!("{other} is a type that no call has"),
+    };
+    let of = match (pointer, of.starts_with("const ")) {
+        (true, true) => format!("*const {element}"),
+        (true, false) => format!("*mut {element}"),
+        (false, _) => element.to_string(),
+    };
+    (name.to_string(), of)
+}
+
+/// What the C header declares.
+fn of_c(text: &str, call: &str) -> Declared {
+    let before = &text[..text.find(&format!(" {call}(")).unwrap_or_else(|| panic!("{call} is not declared"))];
+    let result = before.rsplit('\n').next().unwrap_or_default();
+    let places = |list: &str| items(list).into_iter().map(of_c_item).collect();
+    Declared {
+        parameters: places(between(text, &format!(" {call}("), ")")),
+        fields: places(between(text, &format!("typedef struct {result} {{"), "}")),
+    }
+}
+
+/// Every call.
+fn calls() -> impl Iterator<Item = &'static str> {
+    LEVELS.iter().flat_map(|level| level.exports).copied()
+}
+
+/// The text with two items of the list behind a start exchanged.
+fn exchanged(text: &str, start: &str, end: &str, a: &str, b: &str) -> String {
+    let list = between(text, start, end);
+    let other: Vec<&str> = items(list)
+        .into_iter()
+        .map(|item| {
+            if item == a {
+                b
+            } else if item == b {
+                a
+            } else {
+                item
+            }
+        })
+        .collect();
+    text.replacen(&format!("{start}{list}"), &format!("{start}\n    {},\n", other.join(",\n    ")), 1)
+}
+
+/// Each pair of items of one type of the list behind a start.
+fn pairs<'a>(text: &'a str, start: &str, end: &str) -> Vec<(&'a str, &'a str)> {
+    let all = items(between(text, start, end));
+    let pairs = (0..all.len()).flat_map(|j| (0..j).map(move |i| (i, j)));
+    pairs.map(|(i, j)| (all[i], all[j])).filter(|(a, b)| named(a).1 == named(b).1).collect()
+}
+
+#[test]
+fn rattle_c_and_rust_declare_the_same() {
+    let (rattle, header, rust) = (rattle(), read("include/chain_arena.h"), read("host/src/ffi.rs"));
+    for call in calls() {
+        let exported = of_rust(&rattle, call);
+        assert_eq!(exported.fields[0], ("number".to_string(), "u32".to_string()), "{call}");
+        assert_eq!(of_c(&header, call), exported, "{call} in the C header");
+        assert_eq!(of_rust(&rust, call), exported, "{call} in host/src/ffi.rs");
+    }
+}
+
+#[test]
+fn an_exchange_of_two_parameters_or_fields_is_found_in_every_export() {
+    let (rattle, header) = (rattle(), read("include/chain_arena.h"));
+    for call in calls() {
+        let declared = of_c(&header, call);
+        let mut planted = 0;
+        let mut plant = |start: &str, end: &str| {
+            for (a, b) in pairs(&rattle, start, end) {
+                let wrong = exchanged(&rattle, start, end, a, b);
+                assert_ne!(of_rust(&wrong, call), declared, "{call}: {a} and {b} exchanged");
+                planted += 1;
+            }
+        };
+        plant(&format!("fn {call}("), ")");
+        for of in ["Answer", result(&rattle, call)] {
+            plant(&format!("pub struct {of} {{"), "}");
+        }
+        assert!(planted >= 3, "{call}: prev and next, generation and payload, number and broken at least");
+    }
+}
