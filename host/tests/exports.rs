@@ -37,10 +37,7 @@ fn first_word(line: &str) -> Option<String> {
 }
 
 #[test]
-fn there_are_18_calls_and_the_levels_that_are_asked_for_are_linked() {
-    let all: BTreeSet<&str> = LEVELS.iter().flat_map(|level| level.exports).copied().collect();
-    assert_eq!(all.len(), 18);
-    assert_eq!(LEVELS.iter().map(|level| level.exports.len()).collect::<Vec<_>>(), [6, 10, 2]);
+fn the_levels_that_are_asked_for_are_linked() {
     let asked = [cfg!(feature = "level-one"), cfg!(feature = "level-two"), cfg!(feature = "level-three")];
     assert_eq!(LEVELS.iter().map(|level| archive(level).exists()).collect::<Vec<_>>(), asked);
 }

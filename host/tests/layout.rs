@@ -2,10 +2,11 @@
 //! and type, in the same order. The proofs do not hold these places, so a fault is planted for each export: any two parameters, and any two fields, of one
 //! type exchanged in the Rattle source are found.
 
+use std::collections::BTreeSet;
 use std::fs;
 use std::path::{Path, PathBuf};
 
-use chain_arena::levels::LEVELS;
+use chain_arena::levels::{LEVELS, Level};
 
 /// A parameter or a field: its name, and its type as Rust has it.
 type Place = (String, String);
@@ -25,15 +26,24 @@ fn read(name: &str) -> String {
     fs::read_to_string(root().join(name)).unwrap_or_else(|error| panic!("{name}: {error}"))
 }
 
-/// The Rattle source of what is exported, and of the results that exports share.
-fn rattle() -> String {
+/// The Rattle source of the crates whose names begin with these words.
+fn sources(words: &str) -> String {
     let list = read("crates.txt");
     let crates = list.lines().filter_map(|line| line.split_once(':')).map(|(name, _)| name);
-    let sold = |name: &&str| LEVELS.iter().any(|level| name.starts_with(&format!("{}_", level.name)));
     crates
-        .filter(|name| *name == "answers" || sold(name))
+        .filter(|name| name.starts_with(words))
         .map(|name| read(&format!("crates/{name}/src/lib.rt")))
         .collect()
+}
+
+/// The Rattle source of what a level exports.
+fn exporting(level: &Level) -> String {
+    sources(&format!("{}_", level.name))
+}
+
+/// The Rattle source of what is exported, and of the results that exports share.
+fn rattle() -> String {
+    LEVELS.iter().map(exporting).collect::<String>() + &sources("answers")
 }
 
 /// The text between two marks, the first of which stands behind a start.
@@ -150,6 +160,17 @@ fn pairs<'a>(text: &'a str, start: &str, end: &str) -> Vec<(&'a str, &'a str)> {
     let all = items(between(text, start, end));
     let pairs = (0..all.len()).flat_map(|j| (0..j).map(move |i| (i, j)));
     pairs.map(|(i, j)| (all[i], all[j])).filter(|(a, b)| named(a).1 == named(b).1).collect()
+}
+
+#[test]
+fn each_level_lists_what_its_crates_export() {
+    for level in LEVELS {
+        let source = exporting(level);
+        let exports = source.split("#[no_mangle]\npub extern \"C\" fn ").skip(1);
+        let names: BTreeSet<&str> = exports.filter_map(|text| text.split('(').next()).collect();
+        assert_eq!(level.exports.iter().copied().collect::<BTreeSet<_>>(), names, "{}", level.name);
+        assert_eq!(level.exports.len(), names.len(), "{} lists a name twice", level.name);
+    }
 }
 
 #[test]

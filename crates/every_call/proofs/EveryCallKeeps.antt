@@ -1,4 +1,4 @@
--- Every accepted call, single or inside a run, leaves an arena that passes the check: `every-call-keeps` for all eighteen calls, `any-calls-keep` for any list
+-- Every accepted call, single or inside a run, leaves an arena that passes the check: `every-call-keeps` for every call, `any-calls-keep` for any list
 -- of calls, `inside-a-run` for the commands of a run. Each definition has its own theorem that it keeps an arena well formed, and the check passes exactly if
 -- the arena is well formed. Assumes nothing.
 use Prim.Native.Nat.{ℕ}

@@ -3,6 +3,7 @@ use crate::case::slot_at;
 use crate::case::word_at;
 use crate::text::write_reply;
 use crate::text::write_words;
+use level_two_drain::chain_arena_drain;
 use level_two_edits::chain_arena_break_next;
 use level_two_edits::chain_arena_break_prev;
 use level_two_edits::chain_arena_connect;
@@ -10,8 +11,7 @@ use level_two_edits::chain_arena_exchange_next;
 use level_two_generation::chain_arena_canonicalize_freelist;
 use level_two_generation::chain_arena_inc_generation;
 use level_two_generation::chain_arena_set_generation;
-use level_two_removal::chain_arena_drain;
-use level_two_removal::chain_arena_remove;
+use level_two_remove::chain_arena_remove;
 use level_two_run::chain_arena_run;
 
 // Joins an end to a start.

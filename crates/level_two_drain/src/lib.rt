@@ -1,4 +1,4 @@
-// Level Two, removal of a link and the drain of a chain, as a host calls them.
+// Level Two, the drain of a chain, as a host calls it.
 ghost use mathlib.Core.List.{List, [], _∷_};
 ghost use mathlib.Core.Path.{_≡_};
 ghost use Prim.Native.Nat.{ℕ};
@@ -6,17 +6,13 @@ ghost use Rattle.definitions.specs.Arena.{Arena};
 ghost use Rattle.definitions.specs.Lent.{atEntry, atExit};
 ghost use Rattle.definitions.specs.Reply.{reply};
 ghost use Rattle.definitions.specs.Read.{pointer};
-ghost use Rattle.definitions.specs.Calls.{Remove, Drain};
-ghost use Rattle.links.specs.Links.{removalReply};
+ghost use Rattle.definitions.specs.Calls.{Drain};
 ghost use Rattle.chain_drain.specs.Drained.{drainReply};
 ghost use Rattle.answers.specs.Answered.{Answered};
 use answers::Answer;
-use answers::LinkNoGenResult;
 use answers::checked;
 use chain_drain::Drained;
 use chain_drain::drain;
-use chain_edits::remove;
-use links::InvalidationResult;
 use ptr::Gen;
 use ptr::Ptr;
 use ptr::Slot;
@@ -27,63 +23,6 @@ pub struct DrainResult {
     pub answer: Answer,
     pub items: u32,
     pub overflowed: u32,
-}
-
-// What the host is told of a removal from an arena that passed the check.
-fn remove_result(removed: InvalidationResult) -> LinkNoGenResult
-    ensures { λ r. ⌜ (r .answer .broken ≡ 0) × ((a : Arena) (l : List ℕ) → reply (r .answer .number) (r .prev ∷ r .next ∷ r .payload ∷ []) a l ≡ removalReply removed a l) ⌝ }
-{
-    let answer = Answer::of(removed.number());
-    match removed {
-        InvalidationResult::Success(l) => LinkNoGenResult {
-            answer: answer,
-            prev: l.prev.0 as u32,
-            next: l.next.0 as u32,
-            payload: l.t,
-        },
-        InvalidationResult::GenerationOverflow(l) => LinkNoGenResult {
-            answer: answer,
-            prev: l.prev.0 as u32,
-            next: l.next.0 as u32,
-            payload: l.t,
-        },
-        InvalidationResult::InvalidPtr => LinkNoGenResult {
-            answer: answer,
-            prev: 0,
-            next: 0,
-            payload: 0,
-        },
-    }
-}
-
-// Removes the link at p, and answers what it was.
-#[no_mangle]
-pub extern "C" fn chain_arena_remove(
-    prev: &mut [u16],
-    next: &mut [u16],
-    generation: &mut [u32],
-    payload: &mut [u32],
-    header: &mut [u32],
-    p_slot: u16,
-    p_generation: u32,
-) -> LinkNoGenResult
-    ensures { λ r. ⌜ Answered (Remove (pointer «p_slot» «p_generation»))
-        (atEntry prev next generation payload header) [] (r .answer) (r .prev ∷ r .next ∷ r .payload ∷ []) (atExit prev next generation payload header) [] ⌝ }
-{
-    let answer = checked(&*prev, &*next, &*generation, &*payload, &*header);
-    if answer.number != 0 {
-        return LinkNoGenResult {
-            answer: answer,
-            prev: 0,
-            next: 0,
-            payload: 0,
-        };
-    }
-    let p = Ptr {
-        inx: Slot(p_slot),
-        generation: Gen(p_generation),
-    };
-    remove_result(remove(prev, next, generation, payload, header, p))
 }
 
 // What the host is told of a drain on an arena that passed the check.

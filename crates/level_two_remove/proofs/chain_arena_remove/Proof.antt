@@ -1,18 +1,18 @@
--- `level_two_removal::chain_arena_drain` meets its contract. An arena that the check refuses is as it was; one that passes is well formed, and `chain_drain::drain` says the rest. Assumes nothing.
+-- `level_two_remove::chain_arena_remove` meets its contract. An arena that the check refuses is as it was; one that passes is well formed, and `chain_edits::remove` says the rest. Assumes nothing.
 use mathlib.Core.Path.{refl, _∙_}
 use borrow.Author.Needs.{needs}
 use Rattle.definitions.specs.Calls.{accepted}
 use Rattle.answers.proofs.Exports.{answers-passed, answers-refused, whole}
-use Rattle.level_two_removal.proofs.chain_arena_drain.Statement.{statement}
-use Rattle.level_two_removal.proofs.chain_arena_drain.Tie as tie
+use Rattle.level_two_remove.proofs.chain_arena_remove.Statement.{statement}
+use Rattle.level_two_remove.proofs.chain_arena_remove.Tie as tie
 
 returns : tie.Need-returns
 returns c =
     let found : tie.After-checked = search in
     answers-refused (found .checked .ensures) (c .if1 .taken) _ _
 
-drain-requires : tie.Need-drain-requires
-drain-requires c κs =
+remove-requires : tie.Need-remove-requires
+remove-requires c κs =
     let on : tie.Else1 = search in
     let found : tie.After-checked = search in
     whole (found .checked .ensures) (on .if1 .left)
@@ -20,14 +20,14 @@ drain-requires c κs =
 returns-2 : tie.Need-returns-2
 unfolding accepted
 returns-2 c =
-    let done : tie.After-drain = search in
+    let done : tie.After-remove = search in
     let on : tie.Else1 = search in
     let found : tie.After-checked = search in
-    let told = c .drain-result .ensures in
-    answers-passed (found .checked .ensures) (on .if1 .left) (refl, told .0) _ _ _ _ _ (told .1 _ _ ∙ done .drain .ensures)
+    let told = c .remove-result .ensures in
+    answers-passed (found .checked .ensures) (on .if1 .left) (refl, told .0) _ _ _ _ _ (told .1 _ _ ∙ done .remove .ensures)
 
-pub chain-arena-drain-spec : {M : Type 1} → statement M
-chain-arena-drain-spec =
+pub chain-arena-remove-spec : {M : Type 1} → statement M
+chain-arena-remove-spec =
     tie.close
     (tie.spec
     (λ c κs. search needs)
@@ -37,9 +37,8 @@ chain-arena-drain-spec =
     (λ c. search needs)
     (λ c. search needs)
     returns
-    drain-requires
+    remove-requires
     (λ c κs. search needs)
-    (λ c. search needs)
     (λ c. search needs)
     (λ c. search needs)
     (λ c. search needs)

@@ -1,8 +1,8 @@
--- `level_two_removal::drain_result` meets its contract. Each case has its number and fields by the definition. Assumes nothing.
+-- `level_two_drain::drain_result` meets its contract. Each case has its number and fields by the definition. Assumes nothing.
 use mathlib.Core.Path.{refl}
 use borrow.Author.Needs.{needs}
-use Rattle.level_two_removal.proofs.drain_result.Statement.{statement}
-use Rattle.level_two_removal.proofs.drain_result.Tie as tie
+use Rattle.level_two_drain.proofs.drain_result.Statement.{statement}
+use Rattle.level_two_drain.proofs.drain_result.Tie as tie
 
 returns : tie.Need-returns
 returns c =

@@ -1,8 +1,8 @@
--- `level_two_removal::remove_result` meets its contract. Each case has its number and fields by the definition. Assumes nothing.
+-- `level_two_remove::remove_result` meets its contract. Each case has its number and fields by the definition. Assumes nothing.
 use mathlib.Core.Path.{refl}
 use borrow.Author.Needs.{needs}
-use Rattle.level_two_removal.proofs.remove_result.Statement.{statement}
-use Rattle.level_two_removal.proofs.remove_result.Tie as tie
+use Rattle.level_two_remove.proofs.remove_result.Statement.{statement}
+use Rattle.level_two_remove.proofs.remove_result.Tie as tie
 
 returns : tie.Need-returns
 returns c =
