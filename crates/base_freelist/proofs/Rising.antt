@@ -1,11 +1,9 @@
 -- Laws of the links up to a slot: what one slot more adds, and which is the highest. Assumes nothing.
-use Prim.Native.Nat.{ℕ, zero, suc, _+_, _-_, _≤_, _<_}
+use Prim.Native.Nat.{ℕ, zero, suc, _-_, _≤_}
 use mathlib.Core.Path.{_≡_, refl, sym, ap, _∙_}
-use mathlib.Core.Bool.{Bool, true, false, cond, not, _&&_}
 use mathlib.Core.List.{List, [], _∷_, _++_, append-nil}
 use native.Mathlib.Omega.{arith}
 use native.Mathlib.Numerals.{one-add, sub-one}
-use lib.Dec.{leb}
 use lib.ListN.{getD}
 use borrow.Author.Tests.{le-leb}
 use Rattle.definitions.specs.Columns.{at, lastOr, slotsFrom, keep}

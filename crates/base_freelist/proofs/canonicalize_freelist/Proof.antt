@@ -1,6 +1,5 @@
 -- `base_freelist::canonicalize_freelist` meets its contract: the stack ends with the highest link, the free slots below it are listed, and the
 -- slots above it are popped. The check's shape gives every bound. Assumes nothing.
-use mathlib.Core.Path.{_≡_, refl, sym, ap, _∙_}
 use native.Mathlib.Omega.{arith}
 use borrow.Author.Needs.{needs}
 use lib.ListN.{length-set}

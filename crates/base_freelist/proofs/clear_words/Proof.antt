@@ -1,11 +1,7 @@
 -- `base_freelist::clear_words` meets its contract. The loop's invariant: the column is settled up to slot i, and the measure is what is left
 -- to clear. Assumes nothing.
-use Prim.Native.Nat.{_≤_, _-_}
-use mathlib.Core.Path.{_≡_, refl, sym, ap, _∙_}
-use native.Mathlib.Omega.{arith}
+use Prim.Native.Nat.{_-_}
 use borrow.Author.Needs.{needs}
-use lib.ListN.{length, take}
-use Rattle.definitions.specs.Columns.{settled}
 use Rattle.base_freelist.proofs.Settled.{Clearing, clearing-starts, clearing-goes-on, cleared}
 use Rattle.base_freelist.proofs.clear_words.Statement.{statement}
 use Rattle.base_freelist.proofs.clear_words.Tie as tie

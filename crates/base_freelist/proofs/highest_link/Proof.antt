@@ -1,12 +1,11 @@
 -- `base_freelist::highest_link` meets its contract. The loop's invariant: the highest link up to slot m is the highest link of the stack. The
 -- measure is m. Assumes nothing.
 use Prim.Native.Nat.{_≤_}
-use mathlib.Core.Path.{_≡_, refl, sym, ap, _∙_}
+use mathlib.Core.Path.{_≡_, refl}
 use native.Mathlib.Omega.{arith}
 use borrow.Author.Needs.{needs}
 use Rattle.definitions.specs.Columns.{lastOr}
 use Rattle.definitions.specs.Arena.{linkSlots}
-use Rattle.definitions.proofs.Columns.{at-place}
 use Rattle.base_freelist.proofs.Rising.{highest-here, highest-below, highest-none}
 use Rattle.base_freelist.proofs.highest_link.Statement.{statement}
 use Rattle.base_freelist.proofs.highest_link.Tie as tie

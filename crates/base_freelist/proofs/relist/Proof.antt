@@ -1,12 +1,7 @@
 -- `base_freelist::relist` meets its contract. The loop's invariant: the free slots above slot i are listed in rising order, and `earliest_free`
 -- is the first of them, 0 where there is none. The measure is i. Assumes nothing.
-use Prim.Native.Nat.{_≤_}
-use mathlib.Core.Path.{_≡_, refl, sym, ap, _∙_}
 use mathlib.Core.Logic.{⊎-elim}
-use native.Mathlib.Omega.{arith}
 use borrow.Author.Needs.{needs}
-use lib.ListN.{length, length-set}
-use Rattle.definitions.proofs.Columns.{at-place, put-place}
 use Rattle.base_freelist.proofs.Threaded.{Relisting, relisting-starts, relisting-passes, relisting-first, relisting-next, relisted}
 use Rattle.base_freelist.proofs.relist.Statement.{statement}
 use Rattle.base_freelist.proofs.relist.Tie as tie
