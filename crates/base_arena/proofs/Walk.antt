@@ -25,21 +25,29 @@ module _ (ns gs : List ℕ) (n : ℕ) where
   walk-ends visited s h = let none : n + 2 - visited ≡ 0 = omega arith in rw none refl
 
   -- one visit, of which the code reads the places s - 1; rest is what the visits after it answer
-  abbrev pub visit : ℕ → ℕ → ℕ → ℕ
-  visit visited s rest =
+  abbrev pub visit : ℕ → ℕ → ℕ → ℕ → ℕ
+  visit free visited s rest =
       cond (eqb s 0) 6
       (cond (ltb n s) 7
       (cond (not (eqb (getD gs (s - 1) 0) 0)) 8
-      (cond (eqb (getD ns (s - 1) 0) s) (cond (ltb (visited + 1) (length (freeSlots gs n))) 10 0) rest)))
+      (cond (eqb (getD ns (s - 1) 0) s) (cond (ltb (visited + 1) free) 10 0) rest)))
 
   one-left : (visited : ℕ) → visited < n + 2 → n + 2 - visited ≡ suc (n + 2 - (visited + 1))
   one-left visited h = omega arith
 
-  walk-visits : (visited s : ℕ) → visited < n + 2 → visit visited s (walkAfter (visited + 1) (getD ns (s - 1) 0)) ≡ walkAfter visited s
+  walk-visits :
+      (visited s : ℕ)
+      → visited < n + 2 → visit (length (freeSlots gs n)) visited s (walkAfter (visited + 1) (getD ns (s - 1) 0)) ≡ walkAfter visited s
   unfolding walkAfter freelistWalk at
   walk-visits visited zero h = rw (one-left visited h) refl
   walk-visits visited (suc i) h = rw (one-left visited h, sub-one) refl
 
-  -- what a visit answers is what the walk w answers
-  pub visit-answers : (visited s r w : ℕ) → visited < n + 2 → walkAfter visited s ≡ w → r ≡ visit visited s (walkAfter (visited + 1) (getD ns (s - 1) 0)) → r ≡ w
-  visit-answers visited s r w h e q = q ∙ walk-visits visited s h ∙ e
+  -- what a visit answers is what the walk from the root answers
+  pub visit-answers :
+      (root visited s free r : ℕ)
+      → visited < n + 2
+      → walkAfter visited s ≡ freelistWalk ns gs n (n + 2) root 0
+      → free ≡ length (freeSlots gs n)
+      → r ≡ visit free visited s (walkAfter (visited + 1) (getD ns (s - 1) 0))
+      → r ≡ freelistWalk ns gs n (n + 2) root 0
+  visit-answers root visited s free r h e f q = q ∙ rw f (walk-visits visited s h) ∙ e

@@ -1,10 +1,10 @@
 -- What popping the free end slots and listing the others leaves is the definition's arena. Assumes nothing.
-use Prim.Native.Nat.{ℕ, _≤_}
-use mathlib.Core.Path.{_≡_, refl, sym, ap, _∙_}
+use Prim.Native.Nat.{ℕ}
+use mathlib.Core.Path.{_≡_, refl}
 use mathlib.Core.List.{List, []}
 use native.Mathlib.Omega.{arith}
 use lib.ListN.{take}
-use Rattle.definitions.specs.Columns.{firstOr, lastOr, settled}
+use Rattle.definitions.specs.Columns.{firstOr, lastOr}
 use Rattle.definitions.specs.Arena.{Arena, arena, stackLength, withStackLength, withRoot, linkSlots, freeSlots}
 use Rattle.definitions.specs.Reply.{reply}
 use Rattle.definitions.specs.Remove.{threaded, canonicalizeFreelist}

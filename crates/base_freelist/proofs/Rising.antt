@@ -1,14 +1,14 @@
 -- Laws of the links up to a slot: what one slot more adds, and which is the highest. Assumes nothing.
-use Prim.Native.Nat.{ℕ, zero, suc, _+_, _-_, _≤_, _<_}
+use Prim.Native.Nat.{ℕ, zero, suc, _-_, _≤_}
 use mathlib.Core.Path.{_≡_, refl, sym, ap, _∙_}
-use mathlib.Core.Bool.{Bool, true, false, cond, not, _&&_}
 use mathlib.Core.List.{List, [], _∷_, _++_, append-nil}
 use native.Mathlib.Omega.{arith}
 use native.Mathlib.Numerals.{one-add, sub-one}
-use lib.Dec.{leb}
+use lib.ListN.{getD}
 use borrow.Author.Tests.{le-leb}
 use Rattle.definitions.specs.Columns.{at, lastOr, slotsFrom, keep}
 use Rattle.definitions.specs.Arena.{allocated, linkSlots}
+use Rattle.definitions.proofs.Columns.{at-place}
 use Rattle.definitions.proofs.Slots.{slots-snoc, keep-append, allocated-yes, allocated-free}
 use Rattle.definitions.proofs.Count.{keep-agree, in-slots}
 use Rattle.definitions.proofs.Relisted.{highest-within}
@@ -40,18 +40,25 @@ unfolding lastOr
 last-of-more z x [] = refl
 last-of-more z x (y ∷ xs) = last-of-more y x xs
 
--- the highest link up to slot m is m, if that is a link, and else the highest link below
-pub highest-here : (gs : List ℕ) (m : ℕ) → (m ≡ 0 → ⊥) → (at gs m ≡ 0 → ⊥) → m ≡ lastOr 0 (linkSlots gs m)
-highest-here gs zero h g = absurd (h refl)
-highest-here gs (suc k) h g = rw (links-more gs k g) (sym (last-of-more 0 (suc k) (linkSlots gs k)))
+more-last : (gs : List ℕ) (m : ℕ) → (m ≡ 0 → ⊥) → (at gs m ≡ 0 → ⊥) → m ≡ lastOr 0 (linkSlots gs m)
+more-last gs zero h g = absurd (h refl)
+more-last gs (suc k) h g = rw (links-more gs k g) (sym (last-of-more 0 (suc k) (linkSlots gs k)))
 
-pub highest-below : (gs : List ℕ) (m : ℕ) → (m ≡ 0 → ⊥) → at gs m ≡ 0 → lastOr 0 (linkSlots gs (m - 1)) ≡ lastOr 0 (linkSlots gs m)
-highest-below gs zero h g = absurd (h refl)
-highest-below gs (suc k) h g = rw (sub-one (suc k), links-same gs k g) refl
+same-last : (gs : List ℕ) (m : ℕ) → (m ≡ 0 → ⊥) → at gs m ≡ 0 → lastOr 0 (linkSlots gs (m - 1)) ≡ lastOr 0 (linkSlots gs m)
+same-last gs zero h g = absurd (h refl)
+same-last gs (suc k) h g = rw (sub-one (suc k), links-same gs k g) refl
 
-pub highest-none : (gs : List ℕ) (m : ℕ) → m ≡ 0 → m ≡ lastOr 0 (linkSlots gs m)
-unfolding linkSlots slotsFrom keep lastOr
-highest-none gs m z = rw z refl
+-- the highest link of a stack of n slots, if none is above slot m: it is m, if that is a link, and else below; the code reads slot m at the place m - 1
+module _ (gs : List ℕ) (n m : ℕ) (below : lastOr 0 (linkSlots gs m) ≡ lastOr 0 (linkSlots gs n)) where
+  pub highest-here : (m ≡ 0 → ⊥) → (getD gs (m - 1) 0 ≡ 0 → ⊥) → m ≡ lastOr 0 (linkSlots gs n)
+  highest-here h g = more-last gs m h (λ z. g (at-place gs m h ∙ z)) ∙ below
+
+  pub highest-below : (m ≡ 0 → ⊥) → getD gs (m - 1) 0 ≡ 0 → lastOr 0 (linkSlots gs (m - 1)) ≡ lastOr 0 (linkSlots gs n)
+  highest-below h g = same-last gs m h (sym (at-place gs m h) ∙ g) ∙ below
+
+  pub highest-none : m ≡ 0 → m ≡ lastOr 0 (linkSlots gs n)
+  unfolding linkSlots slotsFrom keep lastOr
+  highest-none z = rw z refl ∙ below
 
 -- where a stack ends that has no free end slots
 pub ends-within : (gs : List ℕ) (n m : ℕ) → m ≡ lastOr 0 (linkSlots gs n) → m ≤ n

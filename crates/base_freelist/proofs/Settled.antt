@@ -4,7 +4,7 @@ use mathlib.Core.Path.{_≡_, refl, sym, ap, _∙_}
 use mathlib.Core.List.{List, [], _∷_, _++_, append-assoc}
 use native.Mathlib.Omega.{arith}
 use native.Mathlib.Numerals.{add-one}
-use lib.ListN.{length, getD, set, take, drop, replicate, length-append, length-drop, length-set, length-replicate, replicate-append-replicate, take-append-drop}
+use lib.ListN.{length, getD, set, take, drop, replicate, length-append, length-set, length-replicate, replicate-append-replicate, take-append-drop}
 use lib.Seq.{drop-cons, set-at, length-take-le}
 use Rattle.definitions.specs.Columns.{settled}
 

@@ -1,17 +1,17 @@
 -- Laws of a freelist that is listed from its highest slot down: what is listed once the slots above slot i are passed. Assumes nothing.
-use Prim.Native.Nat.{ℕ, zero, suc, _+_, _-_, _≤_, _<_}
+use Prim.Native.Nat.{ℕ, zero, suc, _-_, _≤_, _<_}
 use mathlib.Core.Path.{_≡_, refl, sym, ap, _∙_}
-use mathlib.Core.Bool.{Bool, true, false, cond, not}
-use mathlib.Core.List.{List, [], _∷_, _++_}
+use mathlib.Core.Bool.{not}
+use mathlib.Core.List.{List, [], _∷_}
 use native.Mathlib.Omega.{arith}
 use native.Mathlib.Nat.{sub-self, sub-zero}
 use native.Mathlib.Numerals.{sub-one}
-use lib.ListN.{length, set, drop}
+use lib.ListN.{length, getD, set, drop}
 use lib.Seq.{set-comm, drop-set-lt}
 use Rattle.definitions.specs.Columns.{at, put, firstOr, slotsFrom, keep}
 use Rattle.definitions.specs.Arena.{allocated, freeSlots}
 use Rattle.definitions.specs.Remove.{threaded}
-use Rattle.definitions.proofs.Columns.{length-put}
+use Rattle.definitions.proofs.Columns.{at-place, put-place, length-put}
 use Rattle.definitions.proofs.Slots.{allocated-yes, allocated-free}
 use Rattle.definitions.proofs.Count.{In, in-here, in-there, in-slots, in-keep}
 
@@ -102,18 +102,16 @@ module _ (gs old : List ℕ) (m : ℕ) where
   unfolding firstOr threaded
   relisting-starts = record { within = omega arith; small = omega arith; first = rw (none-above gs m) refl; threads = rw (none-above gs m) refl; long = refl }
 
-  -- slot i is a link
-  pub relisting-passes : (i : ℕ) (ns : List ℕ) (earliest : ℕ) → Relisting gs old m i ns earliest → (i ≡ 0 → ⊥) → (at gs i ≡ 0 → ⊥) → Relisting gs old m (i - 1) ns earliest
-  relisting-passes zero ns earliest r d g = absurd (d refl)
-  relisting-passes (suc k) ns earliest r d g =
+  passed : (i : ℕ) (ns : List ℕ) (earliest : ℕ) → Relisting gs old m i ns earliest → (i ≡ 0 → ⊥) → (at gs i ≡ 0 → ⊥) → Relisting gs old m (i - 1) ns earliest
+  passed zero ns earliest r d g = absurd (d refl)
+  passed (suc k) ns earliest r d g =
       let e = free-same gs m k (r .within) g in
       rw (sub-one (suc k)) (record { within = omega arith; small = r .small; first = rw e (r .first); threads = rw e (r .threads); long = r .long })
 
-  -- slot i is free: it points at the earliest so far, or at itself where there is none
-  pub relisting-lists : (i : ℕ) (ns : List ℕ) (earliest v : ℕ) → Relisting gs old m i ns earliest → (i ≡ 0 → ⊥) → at gs i ≡ 0 → v ≡ firstOr i (freeAbove gs m i) → Relisting gs old m (i - 1) (put ns i v) i
+  listed : (i : ℕ) (ns : List ℕ) (earliest v : ℕ) → Relisting gs old m i ns earliest → (i ≡ 0 → ⊥) → at gs i ≡ 0 → v ≡ firstOr i (freeAbove gs m i) → Relisting gs old m (i - 1) (put ns i v) i
   unfolding firstOr threaded
-  relisting-lists zero ns earliest v r d g q = absurd (d refl)
-  relisting-lists (suc k) ns earliest v r d g q =
+  listed zero ns earliest v r d g q = absurd (d refl)
+  listed (suc k) ns earliest v r d g q =
       let e = free-more gs m k (r .within) g in
       let apart : In (suc k) (freeAbove gs m (suc k)) → ⊥ = λ i. let above = in-free-above gs m (suc k) (suc k) i in omega arith in
       rw (sub-one (suc k))
@@ -125,13 +123,27 @@ module _ (gs old : List ℕ) (m : ℕ) where
         long = length-put ns (suc k) v ∙ r .long;
       })
 
-  pub points-at-itself : (i : ℕ) (ns : List ℕ) (earliest : ℕ) → Relisting gs old m i ns earliest → earliest ≡ 0 → i ≡ firstOr i (freeAbove gs m i)
-  points-at-itself i ns earliest r e = sym (first-none i (freeAbove gs m i) (λ z. let above = in-free-above gs m i 0 z in omega arith) (sym (r .first) ∙ e))
+-- slot i, which the code reads and writes at the place i - 1
+module _ {gs old : List ℕ} {m i : ℕ} {ns : List ℕ} {earliest : ℕ} (r : Relisting gs old m i ns earliest) (some : i ≡ 0 → ⊥) where
+  -- is a link
+  pub relisting-passes : (getD gs (i - 1) 0 ≡ 0 → ⊥) → Relisting gs old m (i - 1) ns earliest
+  relisting-passes g = passed gs old m i ns earliest r some (λ z. g (at-place gs i some ∙ z))
 
-  pub points-at-earliest : (i : ℕ) (ns : List ℕ) (earliest : ℕ) → Relisting gs old m i ns earliest → (earliest ≡ 0 → ⊥) → earliest ≡ firstOr i (freeAbove gs m i)
-  points-at-earliest i ns earliest r d = r .first ∙ sym (first-some i (freeAbove gs m i) (λ z. d (r .first ∙ z)))
+  lists : (v : ℕ) → getD gs (i - 1) 0 ≡ 0 → v ≡ firstOr i (freeAbove gs m i) → Relisting gs old m (i - 1) (set ns (i - 1) v) i
+  lists v g q = rw (put-place ns i v some) (listed gs old m i ns earliest v r some (sym (at-place gs i some) ∙ g) q)
 
-  pub relisted : (ns : List ℕ) (i earliest : ℕ) → Relisting gs old m i ns earliest → i ≡ 0 → (earliest ≡ firstOr 0 (freeSlots gs m)) × (ns ≡ threaded old (freeSlots gs m))
-  relisted ns i earliest r z =
-      let e : freeAbove gs m i ≡ freeSlots gs m = rw z (all-above gs m) in
-      (rw (← e) (r .first), rw (← e) (r .threads))
+  -- is the first free slot that is met, and points at itself
+  pub relisting-first : getD gs (i - 1) 0 ≡ 0 → earliest ≡ 0 → Relisting gs old m (i - 1) (set ns (i - 1) i) i
+  relisting-first g e =
+      lists i g (sym (first-none i (freeAbove gs m i) (λ z. let above = in-free-above gs m i 0 z in omega arith) (sym (r .first) ∙ e)))
+
+  -- is free, and points at the earliest so far
+  pub relisting-next : getD gs (i - 1) 0 ≡ 0 → (earliest ≡ 0 → ⊥) → Relisting gs old m (i - 1) (set ns (i - 1) earliest) i
+  relisting-next g d = lists earliest g (r .first ∙ sym (first-some i (freeAbove gs m i) (λ z. d (r .first ∙ z))))
+
+pub relisted :
+    {gs old : List ℕ} {m i : ℕ} {ns : List ℕ} {earliest : ℕ}
+    → Relisting gs old m i ns earliest → i ≡ 0 → (earliest ≡ firstOr 0 (freeSlots gs m)) × (ns ≡ threaded old (freeSlots gs m))
+relisted {gs} {m = m} {i = i} r z =
+    let e : freeAbove gs m i ≡ freeSlots gs m = rw z (all-above gs m) in
+    (rw (← e) (r .first), rw (← e) (r .threads))

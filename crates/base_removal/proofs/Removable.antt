@@ -1,13 +1,13 @@
 -- A link of a well formed arena can be taken out: its neighbours and the root are in the stack, and there is a link to count off. Assumes nothing.
 use Prim.Native.Nat.{ℕ, _≤_, _<_}
-use mathlib.Core.Path.{_≡_, sym, ap}
+use mathlib.Core.Path.{_≡_}
 use mathlib.Core.Bool.{true}
 use mathlib.Core.List.{List, [], _∷_}
 use native.Mathlib.Omega.{arith}
 use native.Mathlib.Decide.{ℕ-discrete}
 use lib.ListN.{length}
-use Rattle.definitions.specs.Columns.{firstOr, count}
-use Rattle.definitions.specs.Arena.{Arena, capacityLimit, stackLength, linkCount, root, linkSlots, isLink}
+use Rattle.definitions.specs.Columns.{firstOr}
+use Rattle.definitions.specs.Arena.{Arena, capacityLimit, stackLength, root, linkSlots, isLink}
 use Rattle.definitions.specs.Check.{WellFormed, Freelist, Neighbour}
 use Rattle.definitions.proofs.Slots.{allocated-some, allocated-within}
 use Rattle.definitions.proofs.Count.{In, in-here, not-in-nil, count-links}

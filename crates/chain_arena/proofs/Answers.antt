@@ -1,23 +1,23 @@
 -- What a public call answers, by what the check answered: laws that every export cites. Assumes nothing.
 use Prim.Native.Nat.{ℕ}
 use mathlib.Core.Path.{_≡_, refl, sym, ap, subst, _∙_}
-use mathlib.Core.Logic.{_⊎_, ⊎-elim}
+use mathlib.Core.Logic.{⊎-elim}
 use mathlib.Core.List.{List, [], _∷_}
 use native.Mathlib.Omega.{arith}
-use lib.ListN.{length, replicate}
+use lib.ListN.{replicate}
 use lib.Dec.{eqb}
 use borrow.Author.Tests.{ne-eqb, eqb-true}
 use denote.Enum.Declared.{tagOf}
 use types.Run.{OneOf}
 use Rattle.definitions.specs.Arena.{Arena, capacityLimit}
-use Rattle.definitions.specs.Check.{verdict, Names}
+use Rattle.definitions.specs.Check.{verdict}
 use Rattle.definitions.specs.Reply.{Reply, reply}
 use Rattle.definitions.specs.Calls.{Call, Check, accepted, replyTo, Answers}
 use Rattle.definitions.proofs.Tests.{by-test}
 use Rattle.definitions.proofs.Fields.{fieldsOf, fields-length}
 use Rattle.chain_arena.specs.Checked.{checkedNumber, brokenSlot, Checks}
 use Rattle.chain_arena.specs.declared.Checked.{Checked}
-use Rattle.chain_arena.specs.declared.Checked.the-variants.{Passed, Refused, Broken}
+use Rattle.chain_arena.specs.declared.Checked.the-variants.{Passed}
 use Rattle.chain_arena.proofs.Checked.{the-type}
 
 -- ---- what the branches of `let Checked::Passed = checked else { .. };` know

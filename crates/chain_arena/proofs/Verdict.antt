@@ -1,13 +1,13 @@
 -- What the check may answer at each of its ends. Assumes nothing.
 use Prim.Native.Nat.{ℕ, zero, suc, _+_, _≤_}
-use mathlib.Core.Path.{_≡_, refl, sym, ap, _∙_}
-use mathlib.Core.Bool.{Bool, true, false, cond, not, _||_}
+use mathlib.Core.Path.{_≡_, refl, sym, _∙_}
+use mathlib.Core.Bool.{Bool, true, false, cond}
 use mathlib.Core.List.{List}
 use native.Mathlib.Omega.{arith}
-use lib.Dec.{eqb, lit≤}
+use lib.Dec.{lit≤}
 use Rattle.definitions.specs.Columns.{at}
 use Rattle.definitions.specs.Arena.{Arena, capacityLimit}
-use Rattle.definitions.specs.Check.{freelistWalk, countsOf, verdict, Names, FailsAt}
+use Rattle.definitions.specs.Check.{freelistWalk, countsOf, verdict, FailsAt}
 use Rattle.definitions.proofs.Tests.{not-ne}
 use Rattle.definitions.proofs.Shaped.{Shaped, countsVerdict, interlinksFine, verdict-of-shaped, passes}
 use Rattle.base_arena.specs.Shape.{shapeOf}

@@ -15,35 +15,19 @@ Inv-loop generation n allocated₀ i₀ allocated i = (i ≤ n) × (allocated �
 abbrev μ-loop : tie.MeasureT-loop
 μ-loop generation n allocated₀ i₀ allocated i = n - i
 
-loop-holds : tie.Need-loop-holds Inv-loop μ-loop
-loop-holds c = (omega arith, omega arith, sym (links-none _ _))
-
-mul-if1 : tie.Need-mul-if1 Inv-loop μ-loop
-mul-if1 c = search needs
-
-shared-slice-read-if1 : tie.Need-shared-slice-read-if1 Inv-loop μ-loop
-shared-slice-read-if1 c = search needs
-
-add-allocated : tie.Need-add-allocated Inv-loop μ-loop
-add-allocated c = search needs
-
-add-i : tie.Need-add-i Inv-loop μ-loop
-add-i c = search needs
-
-loop-less : tie.Need-loop-less Inv-loop μ-loop
-loop-less c = search needs
-
 loop-again : tie.Need-loop-again Inv-loop μ-loop
 loop-again c =
-    let start = c .before .before .before .before .args in
-    let i = c .before .before .before .loop .i in
+    let within : tie.In-loop Inv-loop μ-loop = search in
+    let start : tie.Start Inv-loop μ-loop = search in
     ⊎-elim
-    (λ w. omega (arith, links-more (start .generation .now) (start .n) i (c .before .before .loop-test .taken) (w .0 .taken)))
-    (λ w. omega (arith, links-same (start .generation .now) (start .n) i (w .0 .left)))
+    (λ w. omega (arith, links-more (start .args .generation .now) _ _ (within .loop-test .taken) (w .0 .taken)))
+    (λ w. omega (arith, links-same (start .args .generation .now) (start .args .n) _ (w .0 .left)))
     (c .if1 .came)
 
 returns : tie.Need-returns Inv-loop μ-loop
-returns c = c .before .loop .inv .2 ∙ ap (linksTo _ _) (omega arith) ∙ links-all _ _
+returns c =
+    let turn : tie.At-loop Inv-loop μ-loop = search in
+    turn .loop .inv .2 ∙ ap (linksTo _ _) (omega arith) ∙ links-all _ _
 
 pub allocated-slots-spec : {M : Type 1} → statement M
 allocated-slots-spec =
@@ -51,11 +35,11 @@ allocated-slots-spec =
     (tie.spec
     Inv-loop
     μ-loop
-    loop-holds
-    mul-if1
-    shared-slice-read-if1
-    add-allocated
-    add-i
-    loop-less
+    (λ c. (omega arith, omega arith, sym (links-none _ _)))
+    (λ c. search needs)
+    (λ c. search needs)
+    (λ c. search needs)
+    (λ c. search needs)
+    (λ c. search needs)
     loop-again
     returns)

@@ -8,45 +8,26 @@ use borrow.Author.Needs.{needs}
 use Rattle.base_arena.proofs.counts.Statement.{statement}
 use Rattle.base_arena.proofs.counts.Tie as tie
 
-allocated-slots-requires : tie.Need-allocated-slots-requires
-allocated-slots-requires c κs = search needs
-
-returns : tie.Need-returns
-returns c = by-count _ _ _ _ _ _ _ (c .before .allocated-slots .ensures) (search tests depth 20)
-
-cast-free : tie.Need-cast-free
-cast-free c = search needs
-
 sub-free : tie.Need-sub-free
 sub-free c =
-    let start = c .before .before .before .before .args in
-    omega (arith, links-and-free (start .generation .now) (start .n))
-
-returns-2 : tie.Need-returns-2
-returns-2 c = by-count _ _ _ _ _ _ _ (c .before .before .before .allocated-slots .ensures) (search tests depth 20)
-
-returns-3 : tie.Need-returns-3
-returns-3 c = by-count _ _ _ _ _ _ _ (c .before .before .before .allocated-slots .ensures) (search tests depth 20)
-
-returns-4 : tie.Need-returns-4
-returns-4 c = by-count _ _ _ _ _ _ _ (c .before .before .before .allocated-slots .ensures) (search tests depth 20)
+    let start : tie.Start = search in
+    omega (arith, links-and-free (start .args .generation .now) (start .args .n))
 
 freelist-requires : tie.Need-freelist-requires
-freelist-requires c κs = (search needs, search needs, search needs, free-left _ _ _ (c .before .before .before .allocated-slots .ensures))
-
-returns-5 : tie.Need-returns-5
-returns-5 c = by-count _ _ _ _ _ _ _ (c .before .before .before .before .allocated-slots .ensures) (search tests depth 20)
+freelist-requires c κs =
+    let counted : tie.After-allocated-slots = search in
+    (search needs, search needs, search needs, free-left _ _ _ (counted .allocated-slots .ensures))
 
 pub counts-spec : {M : Type 1} → statement M
 counts-spec =
     tie.close
     (tie.spec
-    allocated-slots-requires
-    returns
-    cast-free
+    (λ c κs. search needs)
+    (λ c. search (by-count, tests) depth 22)
+    (λ c. search needs)
     sub-free
-    returns-2
-    returns-3
-    returns-4
+    (λ c. search (by-count, tests) depth 22)
+    (λ c. search (by-count, tests) depth 22)
+    (λ c. search (by-count, tests) depth 22)
     freelist-requires
-    returns-5)
+    (λ c. search (by-count, tests) depth 22))

@@ -7,11 +7,8 @@ use Rattle.base_removal.proofs.freelist_pointer.Tie as tie
 returns : tie.Need-returns
 returns c = search tests depth 10
 
-cast-t4 : tie.Need-cast-t4
-cast-t4 c = search needs
-
 returns-2 : tie.Need-returns-2
 returns-2 c = search tests depth 10
 
 pub freelist-pointer-spec : {M : Type 1} → statement M
-freelist-pointer-spec = tie.close (tie.spec returns cast-t4 returns-2)
+freelist-pointer-spec = tie.close (tie.spec returns (λ c. search needs) returns-2)

@@ -20,26 +20,20 @@ Inv-loop prev next generation n x₀ x =
 abbrev μ-loop : tie.MeasureT-loop
 μ-loop prev next generation n x₀ x = n + 1 - x
 
-loop-holds : tie.Need-loop-holds Inv-loop μ-loop
-loop-holds c = (omega arith, omega arith, λ k h p. absurd (omega arith))
-
-neighbours-fine-requires : tie.Need-neighbours-fine-requires Inv-loop μ-loop
-neighbours-fine-requires c κs = search needs
-
 returns : tie.Need-returns Inv-loop μ-loop
-returns c = (omega arith, fails-at _ _ _ _ (c .before .before .before .loop .x) (omega arith) (omega arith) (search tests), λ z. search tests)
-
-add-x : tie.Need-add-x Inv-loop μ-loop
-add-x c = search needs
-
-loop-less : tie.Need-loop-less Inv-loop μ-loop
-loop-less c = search needs
+returns c =
+    let turn : tie.At-loop Inv-loop μ-loop = search in
+    (omega arith, fails-at _ _ _ _ (turn .loop .x) (omega arith) (omega arith) (search tests), λ z. search tests)
 
 loop-again : tie.Need-loop-again Inv-loop μ-loop
-loop-again c = (omega arith, omega arith, below-more _ _ (c .before .before .before .loop .inv .2) (λ p. search tests))
+loop-again c =
+    let turn : tie.At-loop Inv-loop μ-loop = search in
+    (omega arith, omega arith, below-more _ _ (turn .loop .inv .2) (λ p. search tests))
 
 returns-2 : tie.Need-returns-2 Inv-loop μ-loop
-returns-2 c = (omega arith, all-fine _ _ _ _ _ (λ x p h. c .before .loop .inv .2 x (omega arith) p), λ z. absurd (z refl))
+returns-2 c =
+    let turn : tie.At-loop Inv-loop μ-loop = search in
+    (omega arith, all-fine _ _ _ _ _ (λ x p h. turn .loop .inv .2 x (omega arith) p), λ z. absurd (z refl))
 
 pub interlinks-spec : {M : Type 1} → statement M
 interlinks-spec =
@@ -47,10 +41,10 @@ interlinks-spec =
     (tie.spec
     Inv-loop
     μ-loop
-    loop-holds
-    neighbours-fine-requires
+    (λ c. (omega arith, omega arith, λ k h p. absurd (omega arith)))
+    (λ c κs. search needs)
     returns
-    add-x
-    loop-less
+    (λ c. search needs)
+    (λ c. search needs)
     loop-again
     returns-2)

@@ -15,15 +15,11 @@ returns c = rw (c .if1 .taken) (sym (allocated-free _ _ 0 (at-zero _)))
 returns-2 : tie.Need-returns-2
 returns-2 c = sym (allocated-past _ _ _ (c .if2 .taken))
 
-cast-t7 : tie.Need-cast-t7
-cast-t7 c = search needs
-
-word-at-requires : tie.Need-word-at-requires
-word-at-requires c κs = search needs
-
 returns-3 : tie.Need-returns-3
 unfolding allocated
-returns-3 c = rw (le-leb _ _ (c .before .if2 .left), ← c .word-at .ensures) refl
+returns-3 c =
+    let within : tie.Else2 = search in
+    rw (le-leb _ _ (within .if2 .left), ← c .word-at .ensures) refl
 
 pub is-link-spec : {M : Type 1} → statement M
-is-link-spec = tie.close (tie.spec returns returns-2 cast-t7 word-at-requires returns-3)
+is-link-spec = tie.close (tie.spec returns returns-2 (λ c. search needs) (λ c κs. search needs) returns-3)

@@ -8,21 +8,9 @@ use Rattle.chain_traits.proofs.Fresh.{fresh, reads}
 use Rattle.chain_traits.proofs.are_neighbors.Statement.{statement}
 use Rattle.chain_traits.proofs.are_neighbors.Tie as tie
 
-shared-slice-read-n : tie.Need-shared-slice-read-n
-shared-slice-read-n c = search needs
-
-cast-n : tie.Need-cast-n
-cast-n c = search needs
-
-stale-requires : tie.Need-stale-requires
-stale-requires c κs = search needs
-
 returns : tie.Need-returns
 unfolding neighbors
 returns c = sym (search reads depth 20)
-
-stale-requires-2 : tie.Need-stale-requires-2
-stale-requires-2 c κs = search needs
 
 returns-2 : tie.Need-returns-2
 unfolding neighbors
@@ -38,11 +26,11 @@ pub are-neighbors-spec : {M : Type 1} → statement M
 are-neighbors-spec =
     tie.close
     (tie.spec
-    shared-slice-read-n
-    cast-n
-    stale-requires
+    (λ c. search needs)
+    (λ c. search needs)
+    (λ c κs. search needs)
     returns
-    stale-requires-2
+    (λ c κs. search needs)
     returns-2
     slot-at-requires
     returns-3)

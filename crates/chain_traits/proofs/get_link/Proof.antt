@@ -9,12 +9,6 @@ use Rattle.chain_traits.proofs.get_link.Tie as tie
 get-link-no-gen-requires : tie.Need-get-link-no-gen-requires
 get-link-no-gen-requires c κs = shaped _ _ (c .before .before .before .before .before .pre)
 
-enum-told : tie.Need-enum-told
-enum-told c = search needs
-
-enum-known-l : tie.Need-enum-known-l
-enum-known-l c = search needs
-
 pointer-to-requires : tie.Need-pointer-to-requires
 pointer-to-requires c κs = found-within _ _ _ _ (c .before .before .before .before .before .before .before .before .before .pre) (found _ _ _ (rw (c .before .l .given .1) at (c .before .before .before .get-link-no-gen .ensures))) .0
 
@@ -32,8 +26,8 @@ get-link-spec =
     tie.close
     (tie.spec
     get-link-no-gen-requires
-    enum-told
-    enum-known-l
+    (λ c. search needs)
+    (λ c. search needs)
     pointer-to-requires
     pointer-to-requires-2
     returns

@@ -7,15 +7,6 @@ use Rattle.chain_traits.proofs.Fresh.{fresh, reads}
 use Rattle.chain_traits.proofs.get_link_no_gen.Statement.{statement}
 use Rattle.chain_traits.proofs.get_link_no_gen.Tie as tie
 
-shared-slice-read-stale : tie.Need-shared-slice-read-stale
-shared-slice-read-stale c = search needs
-
-cast-stale : tie.Need-cast-stale
-cast-stale c = search needs
-
-stale-requires : tie.Need-stale-requires
-stale-requires c κs = search needs
-
 returns : tie.Need-returns
 unfolding getLinkNoGen
 returns c = search reads depth 20
@@ -37,9 +28,9 @@ pub get-link-no-gen-spec : {M : Type 1} → statement M
 get-link-no-gen-spec =
     tie.close
     (tie.spec
-    shared-slice-read-stale
-    cast-stale
-    stale-requires
+    (λ c. search needs)
+    (λ c. search needs)
+    (λ c κs. search needs)
     returns
     slot-at-requires
     slot-at-requires-2

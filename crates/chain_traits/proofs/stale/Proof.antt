@@ -10,15 +10,9 @@ returns : tie.Need-returns
 unfolding staleIn stale
 returns c = search tests depth 20
 
-cast-if2 : tie.Need-cast-if2
-cast-if2 c = search needs
-
 returns-2 : tie.Need-returns-2
 unfolding staleIn stale
 returns-2 c = search tests depth 20
-
-word-at-requires : tie.Need-word-at-requires
-word-at-requires c κs = search needs
 
 returns-3 : tie.Need-returns-3
 unfolding staleIn stale
@@ -29,4 +23,4 @@ unfolding staleIn stale
 returns-4 c = rw (← c .before .before .word-at .ensures) (search tests depth 20)
 
 pub stale-spec : {M : Type 1} → statement M
-stale-spec = tie.close (tie.spec returns cast-if2 returns-2 word-at-requires returns-3 returns-4)
+stale-spec = tie.close (tie.spec returns (λ c. search needs) returns-2 (λ c κs. search needs) returns-3 returns-4)

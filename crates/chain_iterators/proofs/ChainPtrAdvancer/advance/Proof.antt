@@ -1,6 +1,7 @@
 -- `chain_iterators::ChainPtrAdvancer::advance` meets its contract: its three answers are the definition's three branches. Assumes nothing.
 use mathlib.Core.Path.{ap, _∙_}
 use native.Mathlib.Omega.{arith}
+use native.Mathlib.Nat.{pos-of-ne-zero}
 use borrow.Author.Needs.{needs}
 use Rattle.definitions.specs.Walk.{none}
 use Rattle.definitions.proofs.Tests.{came-true, came-false}
@@ -8,47 +9,40 @@ use Rattle.definitions.proofs.Steps.{link-slot, step-spent, step-ends, step-ans
 use Rattle.chain_iterators.proofs.ChainPtrAdvancer.advance.Statement.{statement}
 use Rattle.chain_iterators.proofs.ChainPtrAdvancer.advance.Tie as tie
 
-returns : tie.Need-returns
-returns c = step-spent _ _ (c .if1 .taken)
-
-shared-slice-read-is-link : tie.Need-shared-slice-read-is-link
-shared-slice-read-is-link c = search needs
-
-cast-is-link : tie.Need-cast-is-link
-cast-is-link c = search needs
-
-is-link-requires : tie.Need-is-link-requires
-is-link-requires c κs = search needs
-
-moved-requires : tie.Need-moved-requires
-moved-requires c κs = search needs
-
 returns-2 : tie.Need-returns-2
-returns-2 c = ap none (c .moved .ensures) ∙ step-ends _ _ (c .before .before .before .before .if1 .left) (came-false _ _ (c .before .before .is-link .ensures) (c .before .if2 .taken))
-
-cast-t13 : tie.Need-cast-t13
-cast-t13 c = let s = link-slot _ _ _ (came-true _ _ (c .before .before .is-link .ensures) (c .before .if2 .left)) in omega arith
-
-word-at-requires : tie.Need-word-at-requires
-word-at-requires c κs = let s = link-slot _ _ _ (came-true _ _ (c .before .before .is-link .ensures) (c .before .if2 .left)) in omega arith
+returns-2 c =
+    let free : tie.Then2 = search in
+    let asked : tie.After-is-link = search in
+    let more : tie.Else1 = search in
+    ap none (c .moved .ensures) ∙ step-ends _ _ (more .if1 .left) (came-false _ _ (asked .is-link .ensures) (free .if2 .taken))
 
 onward-requires : tie.Need-onward-requires
-onward-requires c κs = (c .before .before .before .before .before .before .before .before .before .before .before .before .pre, (came-true _ _ (c .before .before .before .is-link .ensures) (c .before .before .if2 .left), omega arith))
+onward-requires c κs =
+    let link : tie.Else2 = search in
+    let asked : tie.After-is-link = search in
+    let more : tie.Else1 = search in
+    let start : tie.Start = search in
+    (start .pre, (came-true _ _ (asked .is-link .ensures) (link .if2 .left), pos-of-ne-zero (more .if1 .left)))
 
 returns-3 : tie.Need-returns-3
-returns-3 c = step-answers _ _ _ _ (c .before .before .before .before .before .before .if1 .left) (came-true _ _ (c .before .before .before .before .is-link .ensures) (c .before .before .before .if2 .left)) (c .before .word-at .ensures) (c .onward .ensures)
+returns-3 c =
+    let read : tie.After-word-at = search in
+    let link : tie.Else2 = search in
+    let asked : tie.After-is-link = search in
+    let more : tie.Else1 = search in
+    step-answers _ _ _ _ (more .if1 .left) (came-true _ _ (asked .is-link .ensures) (link .if2 .left)) (read .word-at .ensures) (c .onward .ensures)
 
 pub advance-spec : {M : Type 1} → statement M
 advance-spec =
     tie.close
     (tie.spec
-    returns
-    shared-slice-read-is-link
-    cast-is-link
-    is-link-requires
-    moved-requires
+    (λ c. step-spent _ _ (c .if1 .taken))
+    (λ c. search needs)
+    (λ c. search needs)
+    (λ c κs. search needs)
+    (λ c κs. search needs)
     returns-2
-    cast-t13
-    word-at-requires
+    (λ c. let link : tie.Else2 = search in let asked : tie.After-is-link = search in omega (arith, link-slot _ _ _ (came-true _ _ (asked .is-link .ensures) (link .if2 .left))))
+    (λ c κs. let link : tie.Else2 = search in let asked : tie.After-is-link = search in omega (arith, link-slot _ _ _ (came-true _ _ (asked .is-link .ensures) (link .if2 .left))))
     onward-requires
     returns-3)
