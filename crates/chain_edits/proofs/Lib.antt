@@ -1,3 +1,4 @@
 pub mod Around
 pub mod Removal
+pub mod Replies
 pub mod Sides

@@ -18,16 +18,15 @@ use Rattle.links.specs.Links.{noGenWords, removalReply}
 use Rattle.links.specs.declared.InvalidationResult.the-variants.{InvalidPtr}
 use Rattle.links.specs.declared.LinkNoGen.{LinkNoGen}
 
-module _ (top : ℕ) (a : Arena) (p : Pointer) where
-  -- nothing was found at a stale pointer, and nothing is removed
-  pub remove-none : linkNoGenReply Stale a [] ≡ getLinkNoGen a p [] → removalReply InvalidPtr a [] ≡ remove top a p []
-  unfolding remove getLinkNoGen
-  remove-none e =
-      by-test (stale a p)
-      (λ s. rw s refl)
-      (λ s. let z : _≡_ {A = ℕ} 12 0 = ap (λ (r : Reply). r .number) (rw s at e) in absurd (omega arith))
+-- nothing was found at a stale pointer, and nothing is removed
+pub remove-none : (top : ℕ) (a : Arena) (p : Pointer) → linkNoGenReply Stale a [] ≡ getLinkNoGen a p [] → removalReply InvalidPtr a [] ≡ remove top a p []
+unfolding remove getLinkNoGen
+remove-none top a p e =
+    by-test (stale a p)
+    (λ s. rw s refl)
+    (λ s. let z : _≡_ {A = ℕ} 12 0 = ap (λ (r : Reply). r .number) (rw s at e) in absurd (omega arith))
 
-  -- the link l that was found is answered, with or without overflow
-  pub remove-found : (l : LinkNoGen) (left : Arena) (overflow : Bool) → FoundAt a p l → TakenOut top a (p .slot) left overflow → reply (doneNumber overflow) (noGenWords l) left [] ≡ remove top a p []
-  unfolding remove
-  remove-found l left overflow f t = rw (f .fresh, f .prev, f .next, f .payload, t .arena, t .overflowed) refl
+-- the link l that was found is answered, with or without overflow
+pub remove-found : {top : ℕ} {a left : Arena} {p : Pointer} {l : LinkNoGen} {overflow : Bool} → FoundAt a p l → TakenOut top a (p .slot) left overflow → reply (doneNumber overflow) (noGenWords l) left [] ≡ remove top a p []
+unfolding remove
+remove-found f t = rw (f .fresh, f .prev, f .next, f .payload, t .arena, t .overflowed) refl

@@ -4,50 +4,62 @@ use mathlib.Core.Bool.{Bool, true, false, cond}
 use mathlib.Core.List.{List, []}
 use mathlib.Core.Logic.{_≢_}
 use mathlib.Core.Path.{_≡_, refl, sym, _∙_}
-use native.Mathlib.Omega.{arith}
+use native.Mathlib.Nat.{pos-of-ne-zero}
 use borrow.Author.Tests.{eq-eqb, ne-eqb}
-use Rattle.definitions.specs.Arena.{Arena, stackLength, withLinks}
+use lib.Dec.{eqb}
+use lib.ListN.{length}
+use Rattle.definitions.specs.Arena.{Arena, withLinks}
 use Rattle.definitions.specs.Columns.{at, put}
 use Rattle.definitions.specs.Edit.{breakPrev, breakNext}
 use Rattle.definitions.specs.Read.{Pointer, stale}
 use Rattle.definitions.specs.Reply.{reply, refusal}
+use Rattle.base_removal.specs.Removal.{Joinable}
 use Rattle.chain_edits.specs.Edits.{breakSide}
-use Rattle.chain_edits.proofs.Around.{Around}
 
--- the neighbour of slot s on that side
-abbrev pub neighbour : List ℕ → List ℕ → ℕ → Bool → ℕ
-neighbour ps ns s after = cond after (at ns s) (at ps s)
+-- the neighbour of p on that side
+abbrev pub neighbour : Arena → Pointer → Bool → ℕ
+neighbour a p after = cond after (at (a .next) (p .slot)) (at (a .prev) (p .slot))
 
--- of what was read on both sides, the one that is gone on with
-pub picked : (ps ns : List ℕ) (s : ℕ) (after : Bool) (k x y : ℕ) → x ≡ at ns s → y ≡ at ps s → k ≡ cond after x y → k ≡ neighbour ps ns s after
-picked ps ns s after k x y ex ey e = rw (← ex, ← ey) e
+-- both breaks are one: the interlink leads from one of the two slots to the other, and which side was asked for says which is which
+side : (a : Arena) (p : Pointer) (after : Bool) →
+    let k = neighbour a p after in
+    breakSide a p after
+    ≡ cond (stale a p) (refusal 12 0 a [])
+    (cond (eqb k 0) (refusal 13 0 a [])
+    (reply 0 [] (withLinks a (put (a .prev) (cond after k (p .slot)) 0) (put (a .next) (cond after (p .slot) k) 0)) []))
+unfolding breakPrev breakNext
+side a p true = refl
+side a p false = refl
 
-module _ (a : Arena) (p : Pointer) where
-  pub side-stale : (after : Bool) → stale a p ≡ true → refusal 12 0 a [] ≡ breakSide a p after
-  unfolding breakPrev breakNext
-  side-stale true s = rw s refl
-  side-stale false s = rw s refl
+pub side-stale : (a : Arena) (p : Pointer) (after : Bool) → stale a p ≡ true → refusal 12 0 a [] ≡ breakSide a p after
+side-stale a p after s = rw (side, s) refl
 
-  module _ (fresh : stale a p ≡ false) where
-    pub side-none : (after : Bool) (k : ℕ) → k ≡ neighbour (a .prev) (a .next) (p .slot) after → k ≡ 0 → refusal 13 0 a [] ≡ breakSide a p after
-    unfolding breakPrev breakNext
-    side-none true k e z = rw (fresh, eq-eqb _ 0 (sym e ∙ z)) refl
-    side-none false k e z = rw (fresh, eq-eqb _ 0 (sym e ∙ z)) refl
+-- what is known of the neighbour k that was read beside p: p is not stale, and k is the word on that side
+pub record Beside (a : Arena) (p : Pointer) (after : Bool) (k : ℕ) : Type 0 where
+  pub fresh : stale a p ≡ false
+  pub stands : Joinable (a .prev) (a .next) (p .slot)
+  pub word : k ≡ neighbour a p after
 
-    -- neither end of the interlink names the other any more
-    pub side-done : (after : Bool) (k : ℕ) → k ≡ neighbour (a .prev) (a .next) (p .slot) after → k ≢ 0 → (from to : ℕ) → from ≡ cond after (p .slot) k → to ≡ cond after k (p .slot)
-        → (ps ns : List ℕ) → ps ≡ put (a .prev) to 0 → ns ≡ put (a .next) from 0 → reply 0 [] (withLinks a ps ns) [] ≡ breakSide a p after
-    unfolding breakPrev breakNext
-    side-done true k e d from to ef et ps ns ep en = rw (ep, en, ef, et, e, fresh, ne-eqb _ 0 (λ z. d (e ∙ z))) refl
-    side-done false k e d from to ef et ps ns ep en = rw (ep, en, ef, et, e, fresh, ne-eqb _ 0 (λ z. d (e ∙ z))) refl
+module _ {a : Arena} {p : Pointer} {after : Bool} {k : ℕ} (here : Beside a p after k) where
+  pub side-none : k ≡ 0 → refusal 13 0 a [] ≡ breakSide a p after
+  side-none z = rw (side, here .fresh, eq-eqb _ 0 (sym (here .word) ∙ z)) refl
 
--- both ends of an interlink are in the stack, whichever is which
-pub record Ends (a : Arena) (s k : ℕ) (after : Bool) : Type 0 where
-  pub from-some : 0 < cond after s k
-  pub from-within : cond after s k ≤ stackLength a
-  pub to-some : 0 < cond after k s
-  pub to-within : cond after k s ≤ stackLength a
+  -- neither end of the interlink names the other any more
+  pub side-done : {from to : ℕ} {ps ns : List ℕ} → k ≢ 0 → from ≡ cond after (p .slot) k → to ≡ cond after k (p .slot)
+      → ps ≡ put (a .prev) to 0 → ns ≡ put (a .next) from 0 → reply 0 [] (withLinks a ps ns) [] ≡ breakSide a p after
+  side-done d ef et ep en = rw (side, ep, en, ef, et, here .word, here .fresh, ne-eqb _ 0 (λ z. d (here .word ∙ z))) refl
 
-pub side-ends : (a : Arena) (s : ℕ) (after : Bool) (k : ℕ) → Around a s → k ≡ neighbour (a .prev) (a .next) s after → k ≢ 0 → Ends a s k after
-side-ends a s true k at-p e d = record { from-some = at-p .some; from-within = at-p .within; to-some = omega arith; to-within = omega (arith, at-p .after) }
-side-ends a s false k at-p e d = record { from-some = omega arith; from-within = omega (arith, at-p .before); to-some = at-p .some; to-within = at-p .within }
+  -- both ends are in their columns
+  pub from-stands : {from : ℕ} → k ≢ 0 → from ≡ cond after (p .slot) k → (0 < from) × (from ≤ length (a .next))
+  from-stands d e = rw e (from after (here .word))
+    where
+      from : (after : Bool) → k ≡ neighbour a p after → (0 < cond after (p .slot) k) × (cond after (p .slot) k ≤ length (a .next))
+      from true w = (here .stands .some, here .stands .in-next)
+      from false w = (pos-of-ne-zero d, rw w (here .stands .before))
+
+  pub to-stands : {to : ℕ} → k ≢ 0 → to ≡ cond after k (p .slot) → (0 < to) × (to ≤ length (a .prev))
+  to-stands d e = rw e (to after (here .word))
+    where
+      to : (after : Bool) → k ≡ neighbour a p after → (0 < cond after k (p .slot)) × (cond after k (p .slot) ≤ length (a .prev))
+      to true w = (pos-of-ne-zero d, rw w (here .stands .after))
+      to false w = (here .stands .some, here .stands .in-prev)

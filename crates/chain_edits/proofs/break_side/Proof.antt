@@ -1,97 +1,111 @@
 -- `chain_edits::break_side` meets its contract. A neighbour of a link is in the stack, so its word can be written; which side it is on decides only which of the two
 -- slots is which. Assumes nothing.
-use mathlib.Core.Path.{sym, _∙_}
-use native.Mathlib.Omega.{arith}
+use mathlib.Core.Bool.{false}
+use mathlib.Core.Path.{_≡_}
 use borrow.Author.Needs.{needs}
+use Rattle.base_removal.specs.Removal.{Joinable}
+use Rattle.definitions.specs.Arena.{Arena}
+use Rattle.definitions.specs.Lent.{lent}
+use Rattle.definitions.specs.Read.{stale}
 use Rattle.chain_edits.proofs.Around.{around}
-use Rattle.chain_edits.proofs.Sides.{picked, side-stale, side-none, side-done, side-ends}
+use Rattle.chain_edits.proofs.Sides.{Beside, side-stale, side-none, side-done, from-stands, to-stands}
 use Rattle.chain_traits.proofs.Fresh.{is-stale, is-fresh}
+use Rattle.chain_traits.specs.Read.{pointerOf}
 use Rattle.chain_edits.proofs.break_side.Statement.{statement}
 use Rattle.chain_edits.proofs.break_side.Tie as tie
 
-shared-slice-read-n : tie.Need-shared-slice-read-n
-shared-slice-read-n c = search needs
+-- past the first test p is not stale
+module _ (on : tie.Else1) where
+  start : tie.Start
+  start = search
 
-cast-n : tie.Need-cast-n
-cast-n c = search needs
+  abbrev was : Arena
+  was = let s = start .args in lent (s .prev) (s .next) (s .generation) (s .payload) (s .header)
 
-stale-requires : tie.Need-stale-requires
-stale-requires c κs = search needs
+  fresh : stale was (pointerOf (start .args .p)) ≡ false
+  unfolding start
+  fresh = let told : tie.After-stale = search in is-fresh _ _ _ (told .stale .ensures) (on .if1 .left)
+
+  at-p : Joinable (was .prev) (was .next) (start .args .p .inx .0)
+  unfolding start
+  at-p = around _ (start .pre) fresh
+
+-- and then its neighbour is picked
+first : tie.After-either → tie.Else1
+first c = search
+
+beside : (c : tie.After-either) → let on = first c in Beside (was on) (pointerOf (start on .args .p)) (start on .args .after) (c .either .result .0)
+unfolding start first
+beside c =
+    let after : tie.After-slot-at2 = search in
+    let before : tie.After-slot-at = search in
+    record {
+      fresh = fresh (first c);
+      stands = at-p (first c);
+      word = rw (← before .slot-at .ensures, ← after .slot-at2 .ensures) (c .either .ensures);
+    }
 
 returns : tie.Need-returns
-returns c = side-stale _ _ (c .before .before .before .before .before .before .before .before .args .after) (is-stale _ _ _ (c .before .stale .ensures) (c .if1 .taken))
+returns c =
+    let told : tie.After-stale = search in
+    let start : tie.Start = search in
+    side-stale _ _ (start .args .after) (is-stale _ _ _ (told .stale .ensures) (c .if1 .taken))
 
 slot-at-requires : tie.Need-slot-at-requires
-slot-at-requires c κs = let at-p = around _ _ _ (c .before .before .before .before .before .before .before .before .before .pre) (sym (c .before .before .stale .ensures) ∙ c .before .if1 .left) in omega arith
+unfolding start
+slot-at-requires c κs = let on : tie.Else1 = search in (at-p on .some, at-p on .in-prev)
 
 slot-at-requires-2 : tie.Need-slot-at-requires-2
-slot-at-requires-2 c κs = let at-p = around _ _ _ (c .before .before .before .before .before .before .before .before .before .before .before .pre) (sym (c .before .before .before .before .stale .ensures) ∙ c .before .before .before .if1 .left) in omega arith
-
-either-requires : tie.Need-either-requires
-either-requires c κs = search needs
-
-same-length : tie.Need-same-length
-same-length c = search needs
-
-same-length-2 : tie.Need-same-length-2
-same-length-2 c = search needs
+unfolding start
+slot-at-requires-2 c κs = let on : tie.Else1 = search in (at-p on .some, at-p on .in-next)
 
 returns-2 : tie.Need-returns-2
-returns-2 c =
-    let after = c .before .before .before .before .before .before .before .before .before .before .before .before .before .before .before .args .after in
-    let neighbour = picked _ _ _ after _ _ _ (c .before .before .before .slot-at2 .ensures) (c .before .before .before .before .before .slot-at .ensures) (c .before .before .either .ensures) in
-    side-none _ _ (is-fresh _ _ _ (c .before .before .before .before .before .before .before .before .stale .ensures) (c .before .before .before .before .before .before .before .if1 .left)) after _ neighbour (c .if2 .taken)
-
-either-requires-2 : tie.Need-either-requires-2
-either-requires-2 c κs = search needs
+unfolding start first
+returns-2 c = let read : tie.After-either = search in side-none (beside read) (c .if2 .taken)
 
 set-at-requires : tie.Need-set-at-requires
+unfolding start first
 set-at-requires c κs =
-    let after = c .before .before .before .before .before .before .before .before .before .before .before .before .before .before .before .before .before .args .after in
-    let neighbour = picked _ _ _ after _ _ _ (c .before .before .before .before .before .slot-at2 .ensures) (c .before .before .before .before .before .before .before .slot-at .ensures) (c .before .before .before .before .either .ensures) in
-    let ends = side-ends _ _ after _ (around _ _ _ (c .before .before .before .before .before .before .before .before .before .before .before .before .before .before .before .before .before .pre) (sym (c .before .before .before .before .before .before .before .before .before .before .stale .ensures) ∙ c .before .before .before .before .before .before .before .before .before .if1 .left)) neighbour (c .before .before .if2 .left) in
-    omega (arith, c .either2 .ensures, ends)
-
-either-requires-3 : tie.Need-either-requires-3
-either-requires-3 c κs = search needs
+    let some : tie.Else2 = search in
+    let read : tie.After-either = search in
+    from-stands (beside read) (some .if2 .left) (c .either2 .ensures)
 
 set-at-requires-2 : tie.Need-set-at-requires-2
+unfolding start first
 set-at-requires-2 c κs =
-    let after = c .before .before .before .before .before .before .before .before .before .before .before .before .before .before .before .before .before .before .before .before .before .before .args .after in
-    let neighbour = picked _ _ _ after _ _ _ (c .before .before .before .before .before .before .before .before .before .before .slot-at2 .ensures) (c .before .before .before .before .before .before .before .before .before .before .before .before .slot-at .ensures) (c .before .before .before .before .before .before .before .before .before .either .ensures) in
-    let ends = side-ends _ _ after _ (around _ _ _ (c .before .before .before .before .before .before .before .before .before .before .before .before .before .before .before .before .before .before .before .before .before .before .pre) (sym (c .before .before .before .before .before .before .before .before .before .before .before .before .before .before .before .stale .ensures) ∙ c .before .before .before .before .before .before .before .before .before .before .before .before .before .before .if1 .left)) neighbour (c .before .before .before .before .before .before .before .if2 .left) in
-    omega (arith, c .either3 .ensures, ends)
-
-same-length-3 : tie.Need-same-length-3
-same-length-3 c = search needs
-
-same-length-4 : tie.Need-same-length-4
-same-length-4 c = search needs
+    let some : tie.Else2 = search in
+    let read : tie.After-either = search in
+    to-stands (beside read) (some .if2 .left) (c .either3 .ensures)
 
 returns-3 : tie.Need-returns-3
+unfolding start first
 returns-3 c =
-    let after = c .before .before .before .before .before .before .before .before .before .before .before .before .before .before .before .before .before .before .before .before .before .before .before .before .before .args .after in
-    let neighbour = picked _ _ _ after _ _ _ (c .before .before .before .before .before .before .before .before .before .before .before .before .before .slot-at2 .ensures) (c .before .before .before .before .before .before .before .before .before .before .before .before .before .before .before .slot-at .ensures) (c .before .before .before .before .before .before .before .before .before .before .before .before .either .ensures) in
-    side-done _ _ (is-fresh _ _ _ (c .before .before .before .before .before .before .before .before .before .before .before .before .before .before .before .before .before .before .stale .ensures) (c .before .before .before .before .before .before .before .before .before .before .before .before .before .before .before .before .before .if1 .left)) after _ neighbour (c .before .before .before .before .before .before .before .before .before .before .if2 .left) _ _ (c .before .before .before .before .before .before .before .before .either2 .ensures) (c .before .before .before .either3 .ensures) _ _ (c .before .before .set-at2 .ensures) (c .before .before .before .before .before .before .before .set-at .ensures)
+    let set-prev : tie.After-set-at2 = search in
+    let to : tie.After-either3 = search in
+    let set-next : tie.After-set-at = search in
+    let from : tie.After-either2 = search in
+    let some : tie.Else2 = search in
+    let read : tie.After-either = search in
+    side-done (beside read) (some .if2 .left) (from .either2 .ensures) (to .either3 .ensures) (set-prev .set-at2 .ensures) (set-next .set-at .ensures)
 
 pub break-side-spec : {M : Type 1} → statement M
 break-side-spec =
     tie.close
     (tie.spec
-    shared-slice-read-n
-    cast-n
-    stale-requires
+    (λ c. search needs)
+    (λ c. search needs)
+    (λ c κs. search needs)
     returns
     slot-at-requires
     slot-at-requires-2
-    either-requires
-    same-length
-    same-length-2
+    (λ c κs. search needs)
+    (λ c. search needs)
+    (λ c. search needs)
     returns-2
-    either-requires-2
+    (λ c κs. search needs)
     set-at-requires
-    either-requires-3
+    (λ c κs. search needs)
     set-at-requires-2
-    same-length-3
-    same-length-4
+    (λ c. search needs)
+    (λ c. search needs)
     returns-3)

@@ -3,17 +3,11 @@ use borrow.Author.Needs.{needs}
 use Rattle.chain_edits.proofs.set_two.Statement.{statement}
 use Rattle.chain_edits.proofs.set_two.Tie as tie
 
-set-at-requires : tie.Need-set-at-requires
-set-at-requires c κs = search needs
-
-set-at-requires-2 : tie.Need-set-at-requires-2
-set-at-requires-2 c κs = search needs
-
-same-length : tie.Need-same-length
-same-length c = search needs
-
 returns : tie.Need-returns
-returns c = rw (← c .before .before .before .before .before .before .set-at .ensures) (c .before .before .set-at2 .ensures)
+returns c =
+    let second : tie.After-set-at2 = search in
+    let first : tie.After-set-at = search in
+    rw (← first .set-at .ensures) (second .set-at2 .ensures)
 
 pub set-two-spec : {M : Type 1} → statement M
-set-two-spec = tie.close (tie.spec set-at-requires set-at-requires-2 same-length returns)
+set-two-spec = tie.close (tie.spec (λ c κs. search needs) (λ c κs. search needs) (λ c. search needs) returns)
