@@ -1,5 +1,5 @@
-//! Records answers for the proved program crates/replay, which makes the same calls through the exports: the cases go to its
-//! file `stdin`, the answers to its file `stdout`.
+//! Records answers for the proved programs crates/replay_*, which make the same calls through the exports: the cases of a
+//! program's calls go to its file `stdin`, the answers to its file `stdout`.
 //!
 //! `cargo run --release -p oracle --bin record`, where the crate's files are at hand (GLUE.md). The answers are those of the
 //! crate's own text; for a damaged arena its `_check_invariants` gives the number, and document 01 the rest: a refused call
@@ -13,13 +13,21 @@
 
 use std::collections::BTreeMap;
 use std::fs;
-use std::path::Path;
+use std::path::{Path, PathBuf};
 
 use oracle::calls::some_call;
 use oracle::compare::{Outcome, crate_number, crate_outcome, crate_text_found, model_outcome};
 use oracle::header::GENERATION;
 use oracle::random::{self, Random};
 use oracle::{Arena, Call, Reply, cases};
+
+/// The programs, each with the codes of its calls.
+const PROGRAMS: [(&str, &[usize]); 4] = [
+    ("replay_read", &[1, 2, 3, 4, 5, 6]),
+    ("replay_edits", &[7, 8, 9, 10, 13, 14, 15]),
+    ("replay_removal", &[11, 12, 16]),
+    ("replay_compress", &[17, 18]),
+];
 
 /// The most slots of a case, and the most words of its arguments or of the slice that it lends.
 const SLOTS: usize = 12;
@@ -58,8 +66,12 @@ fn main() {
             by_model += usize::from(!by_crate);
         }
     }
-    for (file, name) in ["stdin", "stdout"].into_iter().enumerate() {
-        write(name, &kept.values().flatten().map(|lines| lines[file].as_str()).collect::<String>());
+    for (program, codes) in PROGRAMS {
+        for (file, name) in ["stdin", "stdout"].into_iter().enumerate() {
+            let of_program = kept.iter().filter(|((code, _), _)| codes.contains(code));
+            let lines = of_program.flat_map(|(_, cases)| cases).map(|lines| lines[file].as_str());
+            write(program, name, &lines.collect::<String>());
+        }
     }
     for code in 1..=18 {
         let of_code = kept.iter().filter(|((of, _), _)| *of == code);
@@ -74,9 +86,14 @@ fn main() {
     );
 }
 
-/// Writes one of the program's files.
-fn write(name: &str, text: &str) {
-    let path = Path::new(env!("CARGO_MANIFEST_DIR")).join("../crates/replay").join(name);
+/// The place of one of a program's files.
+fn path(program: &str, name: &str) -> PathBuf {
+    Path::new(env!("CARGO_MANIFEST_DIR")).join("../crates").join(program).join(name)
+}
+
+/// Writes one of a program's files.
+fn write(program: &str, name: &str, text: &str) {
+    let path = path(program, name);
     fs::write(&path, text).unwrap_or_else(|error| panic!("{} could not be written: {error}", path.display()));
 }
 
@@ -283,32 +300,43 @@ mod tests {
         (0..=11).chain(own.iter().copied()).collect()
     }
 
-    /// The stored cases and their answers.
-    fn stored() -> impl Iterator<Item = (&'static str, &'static str)> {
-        let cases = include_str!("../../../crates/replay/stdin").lines();
-        let answers = include_str!("../../../crates/replay/stdout").lines();
-        assert_eq!(cases.clone().count(), answers.clone().count());
-        cases.zip(answers)
+    /// The first number of a line.
+    fn first(line: &str) -> u32 {
+        line.split(' ').next().and_then(|word| word.parse().ok()).expect("a number")
+    }
+
+    /// The stored cases and their answers, each case in the program that makes its call.
+    fn stored() -> Vec<(String, String)> {
+        let mut stored = vec![];
+        for (program, codes) in PROGRAMS {
+            let [cases, answers] = ["stdin", "stdout"]
+                .map(|name| fs::read_to_string(path(program, name)).expect("a stored file"));
+            assert_eq!(cases.lines().count(), answers.lines().count(), "{program}");
+            assert!(cases.lines().all(|case| codes.contains(&(first(case) as usize))), "{program}");
+            stored.extend(
+                cases.lines().zip(answers.lines()).map(|(case, answer)| (case.into(), answer.into())),
+            );
+        }
+        stored
     }
 
     /// Every call is there with every number that it can answer.
     #[test]
     fn stored_cases_are_of_every_kind() {
-        let first =
-            |line: &str| line.split(' ').next().and_then(|word| word.parse::<u32>().ok()).expect("a number");
+        let stored = stored();
         let kinds: BTreeSet<(u32, u32)> =
-            stored().map(|(case, answer)| (first(case), first(answer))).collect();
+            stored.iter().map(|(case, answer)| (first(case), first(answer))).collect();
         let all =
             (1..=18).flat_map(|code| numbers(code).into_iter().map(move |number| (code as u32, number)));
         assert_eq!(kinds, all.collect());
-        assert!(stored().count() >= 2_000);
+        assert!(stored.len() >= 2_000);
     }
 
     /// Each stored answer is the model's, and the crate's where its files are at hand and it has one.
     #[test]
     fn stored_answers_stand() {
         for (case, answer) in stored() {
-            let (before, call) = case_of(case);
+            let (before, call) = case_of(&case);
             assert_eq!(case_line(&before, &call).as_deref(), Some(format!("{case}\n").as_str()));
             assert_eq!(answer_line(&model_outcome(&before, &call)), format!("{answer}\n"), "{case}");
             if let Some(after) = crate_answer(&before, &call) {

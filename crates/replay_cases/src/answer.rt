@@ -1,0 +1,72 @@
+// The line of an answer, written part by part.
+use answers::Answer;
+use answers::LinkNoGenResult;
+
+// Writes a space and the word.
+pub fn write_word(word: u32) {
+    io::write_all(1, b" ");
+    io::print_decimal(1, word as u64);
+}
+
+// Writes what every answer begins with: its number, and 1 if it names a broken slot, else 0.
+pub fn write_answer(answer: Answer) {
+    io::print_decimal(1, answer.number as u64);
+    write_word((0 < answer.broken) as u32);
+}
+
+// Writes a link, as it is or as it was when it was removed.
+pub fn write_link_no_gen(r: LinkNoGenResult) {
+    write_answer(r.answer);
+    write_word(r.prev);
+    write_word(r.next);
+    write_word(r.payload);
+}
+
+// What a program answers to a code that it has no call for: a number that no call answers.
+pub fn no_call() -> Answer {
+    Answer::of(999)
+}
+
+// Writes a space and the slot.
+fn write_slot(slot: u16) {
+    write_word(slot as u32);
+}
+
+// Writes the first n slots.
+pub fn write_slots(slots: [u16; 64], n: usize) {
+    for i in 0..64 {
+        if i < n {
+            write_slot(slots[i]);
+        }
+    }
+}
+
+// Writes the first n words.
+pub fn write_words(words: [u32; 64], n: usize) {
+    for i in 0..64 {
+        if i < n {
+            write_word(words[i]);
+        }
+    }
+}
+
+// Writes the columns and the header, as much of each as was lent, and ends the line.
+pub fn write_arena(
+    prev: [u16; 64],
+    p: usize,
+    next: [u16; 64],
+    q: usize,
+    generation: [u32; 64],
+    g: usize,
+    payload: [u32; 64],
+    w: usize,
+    header: [u32; 64],
+    h: usize,
+) {
+    write_slots(prev, p);
+    write_slots(next, q);
+    write_words(generation, g);
+    write_words(payload, w);
+    write_words(header, h);
+    io::write_all(1, b"\n");
+}

@@ -1,0 +1,103 @@
+// Replays stored answers of the edits of interlinks, of the generation and of the freelist. The crate replay_cases says what the files stdin and stdout
+// hold and where they come from.
+use answers::Answer;
+use level_two_edits::chain_arena_break_next;
+use level_two_edits::chain_arena_break_prev;
+use level_two_edits::chain_arena_connect;
+use level_two_edits::chain_arena_exchange_next;
+use level_two_generation::chain_arena_canonicalize_freelist;
+use level_two_generation::chain_arena_inc_generation;
+use level_two_generation::chain_arena_set_generation;
+use replay_cases::Arguments;
+use replay_cases::GENERATION;
+use replay_cases::HEADER;
+use replay_cases::NEXT;
+use replay_cases::PAYLOAD;
+use replay_cases::PREV;
+use replay_cases::arguments_of;
+use replay_cases::code;
+use replay_cases::lent_of;
+use replay_cases::next_case;
+use replay_cases::no_call;
+use replay_cases::slots_of;
+use replay_cases::words_of;
+use replay_cases::write_answer;
+use replay_cases::write_arena;
+
+// Makes the call of a code.
+fn call(
+    code: u32,
+    prev: &mut [u16],
+    next: &mut [u16],
+    generation: &mut [u32],
+    payload: &mut [u32],
+    header: &mut [u32],
+    a: Arguments,
+) -> Answer {
+    match code {
+        7 => chain_arena_connect(
+            prev,
+            next,
+            generation,
+            payload,
+            header,
+            a.slot,
+            a.second,
+            a.other_slot,
+            a.fourth,
+        ),
+        8 => chain_arena_break_prev(prev, next, generation, payload, header, a.slot, a.second),
+        9 => chain_arena_break_next(prev, next, generation, payload, header, a.slot, a.second),
+        10 => chain_arena_exchange_next(
+            prev,
+            next,
+            generation,
+            payload,
+            header,
+            a.slot,
+            a.second,
+            a.other_slot,
+            a.fourth,
+        ),
+        13 => chain_arena_set_generation(prev, next, generation, payload, header, a.first),
+        14 => chain_arena_inc_generation(prev, next, generation, payload, header),
+        15 => chain_arena_canonicalize_freelist(prev, next, generation, payload, header),
+        _ => no_call(),
+    }
+}
+
+// Replays a case.
+fn replay(case: &[u32; 192]) {
+    let p = lent_of(case, PREV);
+    let q = lent_of(case, NEXT);
+    let g = lent_of(case, GENERATION);
+    let w = lent_of(case, PAYLOAD);
+    let h = lent_of(case, HEADER);
+    let mut prev = slots_of(case, PREV, p);
+    let mut next = slots_of(case, NEXT, q);
+    let mut generation = words_of(case, GENERATION, g);
+    let mut payload = words_of(case, PAYLOAD, w);
+    let mut header = words_of(case, HEADER, h);
+    let answer = call(
+        code(case),
+        &mut prev[..p],
+        &mut next[..q],
+        &mut generation[..g],
+        &mut payload[..w],
+        &mut header[..h],
+        arguments_of(case),
+    );
+    write_answer(answer);
+    write_arena(prev, p, next, q, generation, g, payload, w, header, h);
+}
+
+// Replays the cases of standard input.
+fn main() {
+    for i in 0..65536usize {
+        let case = next_case();
+        if code(&case) == 0 {
+            return;
+        }
+        replay(&case);
+    }
+}
