@@ -1,6 +1,6 @@
 // Replays stored answers of the calls that remove links: one link, a whole chain, and runs of commands, which may remove. The crate replay_cases says what
 // the files stdin and stdout hold and where they come from.
-use level_two_removal::DrainResult;
+use level_two_drain::DrainResult;
 use level_two_drain::chain_arena_drain;
 use level_two_remove::chain_arena_remove;
 use level_two_run::chain_arena_run;
