@@ -1,3 +1,2 @@
 pub mod Neighbours
 pub mod Verdict
-pub mod Answers
