@@ -15,13 +15,13 @@ unfolding exchangeWords
 traded xs i t hi ht = rw (at-place xs i hi, at-place xs t ht, put-place xs i (at xs t) hi, put-place (put xs i (at xs t)) t (at xs i) ht) refl
 
 -- nobody is in a slot, or somebody
-pub held-none : (who name : ℕ) → who ≡ 0 → heldOnly who name ≡ 0
+pub held-none : {who : ℕ} (name : ℕ) → who ≡ 0 → heldOnly who name ≡ 0
 unfolding heldOnly
-held-none who name e = rw (eq-eqb who 0 e) refl
+held-none {who} name e = rw (eq-eqb who 0 e) refl
 
-pub held-some : (who name : ℕ) → (who ≡ 0 → ⊥) → heldOnly who name ≡ name
+pub held-some : {who : ℕ} (name : ℕ) → (who ≡ 0 → ⊥) → heldOnly who name ≡ name
 unfolding heldOnly
-held-some who name d = rw (ne-eqb who 0 d) refl
+held-some {who} name d = rw (ne-eqb who 0 d) refl
 
 -- the two names that were read are the neighbours' slots
 pub renamed-where-read : (xs left back ws : List ℕ) (i t named0 named1 : ℕ) → left ≡ exchangeWords i t (put (put xs named0 i) named1 t) → named0 ≡ at back t → named1 ≡ heldOnly (at ws i) (at back i) →
