@@ -29,26 +29,23 @@ Inv-loop generation₀ report₀ n links new count₀ i₀ generation report cou
 abbrev μ-loop : tie.MeasureT-loop
 μ-loop generation₀ report₀ n links new count₀ i₀ generation report count i = n - i
 
+abbrev entry : tie.In-loop Inv-loop μ-loop → tie.Start Inv-loop μ-loop
+entry turn = search
+
 -- in a turn, slot i + 1 is one of the stack's
-slot-left : (c : tie.In-loop Inv-loop μ-loop) →
-    let start : tie.Start Inv-loop μ-loop = search in let turn : tie.At-loop Inv-loop μ-loop = search in turn .loop .i < start .args .n
-slot-left c =
-    let turn : tie.At-loop Inv-loop μ-loop = search in
-    let start : tie.Start Inv-loop μ-loop = search in
-    numbering-within (turn .loop .inv) (start .pre .2) (c .loop-test .taken)
+slot-left : (turn : tie.In-loop Inv-loop μ-loop) → turn .before .loop .i < entry turn .args .n
+slot-left turn = numbering-within (turn .before .loop .inv) (entry turn .pre .2) (turn .loop-test .taken)
 
 loop-again : tie.Need-loop-again Inv-loop μ-loop
 loop-again c =
     let told : tie.After-tell-move Inv-loop μ-loop = search in
-    let within : tie.In-loop Inv-loop μ-loop = search in
-    let turn : tie.At-loop Inv-loop μ-loop = search in
-    let start : tie.Start Inv-loop μ-loop = search in
-    let pre = start .pre in
-    let inv = turn .loop .inv in
-    let more = slot-left within in
+    let turn : tie.In-loop Inv-loop μ-loop = search in
+    let pre = entry turn .pre in
+    let inv = turn .before .loop .inv in
+    let more = slot-left turn in
     let words = told .tell-move .ensures in
     ⊎-elim (λ w. rw (w .1, w .2, words) (numbering-names inv more (w .0 .taken) (pre .1) (pre .2) (pre .3)))
-    (λ w. rw (w .1, w .2, words) (numbering-skips inv more (pre .1) (w .0 .left) (within .loop-test .taken)))
+    (λ w. rw (w .1, w .2, words) (numbering-skips inv more (pre .1) (w .0 .left) (turn .loop-test .taken)))
     (c .if1 .came)
 
 returns : tie.Need-returns Inv-loop μ-loop
