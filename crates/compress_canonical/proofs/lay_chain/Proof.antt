@@ -1,10 +1,9 @@
 -- `compress_canonical::lay_chain` meets its contract. The loop's invariant: for whatever arena is being laid out, the definition is on its way at the state that
 -- the columns hold (ChainInPlace). The measure is the number of slots that are left. Assumes nothing.
 use Prim.Native.Nat.{_+_, _-_}
-use mathlib.Core.Path.{_≡_, refl}
+use mathlib.Core.Path.{_≡_, _∙_}
 use mathlib.Core.Logic.{inl, inr}
 use native.Mathlib.Omega.{arith}
-use borrow.Author.Needs.{needs}
 use lib.ListN.{length}
 use Rattle.compress_canonical.specs.Lent.{lent, AsLong}
 use Rattle.compress_canonical.proofs.ChainInPlace.{Going, going-starts, going-chain, going-below, going-on, going-over}
@@ -72,15 +71,15 @@ lay-chain-spec =
     loop-holds
     lay-link-requires
     add-count
-    (λ c. search needs)
-    (λ c. search needs)
-    (λ c. search needs)
-    (λ c. search needs)
+    (λ c. let put : tie.After-lay-link Inv-loop μ-loop = search in let turn : tie.At-loop Inv-loop μ-loop = search in put .lay-link .kept .0 ∙ turn .loop .inv .0 .prev)
+    (λ c. let put : tie.After-lay-link Inv-loop μ-loop = search in let turn : tie.At-loop Inv-loop μ-loop = search in put .lay-link .kept .1 .0 ∙ turn .loop .inv .0 .next)
+    (λ c. let put : tie.After-lay-link Inv-loop μ-loop = search in let turn : tie.At-loop Inv-loop μ-loop = search in put .lay-link .kept .1 .1 .0 ∙ turn .loop .inv .0 .payload)
+    (λ c. let put : tie.After-lay-link Inv-loop μ-loop = search in let turn : tie.At-loop Inv-loop μ-loop = search in put .lay-link .kept .1 .1 .1 .0 ∙ turn .loop .inv .0 .whereFrom)
     returns
-    (λ c. search needs)
-    (λ c. search needs)
-    (λ c. search needs)
-    (λ c. search needs)
+    (λ c. let put : tie.After-lay-link Inv-loop μ-loop = search in let turn : tie.At-loop Inv-loop μ-loop = search in put .lay-link .kept .0 ∙ turn .loop .inv .0 .prev)
+    (λ c. let put : tie.After-lay-link Inv-loop μ-loop = search in let turn : tie.At-loop Inv-loop μ-loop = search in put .lay-link .kept .1 .0 ∙ turn .loop .inv .0 .next)
+    (λ c. let put : tie.After-lay-link Inv-loop μ-loop = search in let turn : tie.At-loop Inv-loop μ-loop = search in put .lay-link .kept .1 .1 .0 ∙ turn .loop .inv .0 .payload)
+    (λ c. let put : tie.After-lay-link Inv-loop μ-loop = search in let turn : tie.At-loop Inv-loop μ-loop = search in put .lay-link .kept .1 .1 .1 .0 ∙ turn .loop .inv .0 .whereFrom)
     returns-2
     loop-less
     loop-again)

@@ -3,6 +3,13 @@ use borrow.Author.Needs.{needs}
 use Rattle.compress_canonical.proofs.settle.Statement.{statement}
 use Rattle.compress_canonical.proofs.settle.Tie as tie
 
+returns : tie.Need-returns
+returns c =
+    let traded : tie.After-trade-slots = search in
+    let second : tie.After-put-at2 = search in
+    let first : tie.After-put-at = search in
+    rw (← first .put-at .ensures, ← second .put-at2 .ensures) (traded .trade-slots .ensures)
+
 pub settle-spec : {M : Type 1} → statement M
 settle-spec =
     tie.close
@@ -11,4 +18,4 @@ settle-spec =
     (λ c κs. search needs)
     (λ c κs. search needs)
     (λ c. search needs)
-    (λ c. cc))
+    returns)
