@@ -186,22 +186,21 @@ stacked-if-passed a whereFrom passed e =
       room = omega (arith, ok .within);
     }
 
-module _ (top : ℕ) (reset : Bool) (a : Arena) (whereFrom : List ℕ) where
-  pub refused : (length whereFrom ≡ capacity a → ⊥) → reply 14 [] a whereFrom ≡ compressCanonical top reset a whereFrom
+pub refused : (top : ℕ) (reset : Bool) (a : Arena) (whereFrom : List ℕ) → (length whereFrom ≡ capacity a → ⊥) → reply 14 [] a whereFrom ≡ compressCanonical top reset a whereFrom
+unfolding compressCanonical
+refused top reset a whereFrom d = rw (not-ne (length whereFrom) (capacity a) d) refl
+
+module _ {top : ℕ} {reset : Bool} {a : Arena} {whereFrom : List ℕ} {c : Lent} {k : ℕ} {h : List ℕ} (passed : verdict capacityLimit a ≡ 0) (laid : LaidIn a whereFrom c) (renewed : Renewed top reset a k h) where
+  abbrev g : ℕ
+  g = compressGeneration top reset a
+
+  pub shrinkable : Shrinkable (arena (c .prev) (c .next) (a .generation) (c .payload) h)
+  shrinkable = can-shrink capacityLimit a (well-formed-if-passes capacityLimit a passed) whereFrom c laid g h (renewed .header)
+
+  pub compressed : {left : Arena} → length whereFrom ≡ capacity a → left ≡ shrunk (arena (c .prev) (c .next) (a .generation) (c .payload) h) →
+      reply k [] left (c .whereFrom) ≡ compressCanonical top reset a whereFrom
   unfolding compressCanonical
-  refused d = rw (not-ne (length whereFrom) (capacity a) d) refl
-
-  module _ (passed : verdict capacityLimit a ≡ 0) (c : Lent) (laid : LaidIn a whereFrom c) (k : ℕ) (h : List ℕ) (renewed : Renewed top reset a k h) where
-    abbrev g : ℕ
-    g = compressGeneration top reset a
-
-    pub shrinkable : Shrinkable (arena (c .prev) (c .next) (a .generation) (c .payload) h)
-    shrinkable = can-shrink capacityLimit a (well-formed-if-passes capacityLimit a passed) whereFrom c laid g h (renewed .header)
-
-    pub compressed : length whereFrom ≡ capacity a → (left : Arena) → left ≡ shrunk (arena (c .prev) (c .next) (a .generation) (c .payload) h) →
-        reply k [] left (c .whereFrom) ≡ compressCanonical top reset a whereFrom
-    unfolding compressCanonical
-    compressed e left shrinks =
-        let ok = well-formed-if-passes capacityLimit a passed in
-        rw (not-eq (length whereFrom) (capacity a) e, renewed .number, shrinks, shrunk-canonical capacityLimit a ok whereFrom c laid g h (renewed .header), where-from-settled capacityLimit a ok whereFrom c laid)
-        refl
+  compressed e shrinks =
+      let ok = well-formed-if-passes capacityLimit a passed in
+      rw (not-eq (length whereFrom) (capacity a) e, renewed .number, shrinks, shrunk-canonical capacityLimit a ok whereFrom c laid g h (renewed .header), where-from-settled capacityLimit a ok whereFrom c laid)
+      refl

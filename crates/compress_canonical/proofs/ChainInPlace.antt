@@ -120,11 +120,11 @@ module _ {old : Lent} {laid start : ℕ} {c : Lent} {count t : ℕ} (going : Goi
 
     pub going-below : (count < length (c .whereFrom)) × (count + 1 ≤ capacityLimit)
     going-below =
-        let place = place-left (ready .0) (way .state) (ready .1 .i) t c count (way .chain) in
+        let place = place-left (way .chain) in
         let n = same-stack (ready .0) (way .state .slots) (way .state .from) (way .chain .within .state .carried) in
         (omega (arith, place, way .chain .held .from-long), omega (arith, place, n, way .chain .layable .small))
 
-  module _ (left : Lent) (ahead first : ℕ) (is : first ≡ laid + 1) (put : (a : Arena) (l : Laying) (first : ℕ) → InChain a l first t c count → LinkLaid l t left ahead) where
+  module _ {left : Lent} {ahead first : ℕ} (is : first ≡ laid + 1) (put : (a : Arena) (l : Laying) (first : ℕ) → InChain a l first t c count → LinkLaid l t left ahead) where
     at-first : (l : Laying) → l .i ≡ suc laid → first ≡ l .i
     at-first l e = is ∙ (add-one laid ∙ sym e)
 

@@ -46,9 +46,9 @@ between-occupied : (a : Arena) → Layable a → (l : Laying) (c : Lent) → Bet
 between-occupied a ok l c between held =
     occupied (l .slots) (l .from) c (exchangeable a (ok .linked) (ok .room) (l .slots) (l .from) (between .state .carried)) held
 
-pub laying-starts : (c : Lent) (found : ℕ) → ((b : Arena) → Occupied b (c .whereFrom) → found ≡ lowestFrom b (0 + 1)) → LayingOut c c 0 found
+pub laying-starts : (c : Lent) {found : ℕ} → ((b : Arena) → Occupied b (c .whereFrom) → found ≡ lowestFrom b (0 + 1)) → LayingOut c c 0 found
 unfolding laidOut
-laying-starts c found search = record { waits = starts }
+laying-starts c {found} lowest = record { waits = starts }
   where
     starts : (a : Arena) → Ready a c → Waits a c 0 found
     starts a ready =
@@ -63,7 +63,7 @@ laying-starts c found search = record { waits = starts }
           held = ready .held;
           same = refl;
           enough = omega arith;
-          lowest = search a (between-occupied a (ready .layable) l c between (ready .held));
+          lowest = lowest a (between-occupied a (ready .layable) l c between (ready .held));
         }
 
 -- ---- one chain
@@ -144,8 +144,8 @@ module _ (a : Arena) (c : Lent) (laid found : ℕ) (waits : Waits a c laid found
                 rw last (laid-out .free (lowestFrom b (l .i)) (free-before b (l .i)))
 
         pub next-waits : (from found′ : ℕ) → Larger now (found - 1) from → ((x : Arena) → Occupied x (left .whereFrom) → found′ ≡ lowestFrom x (from + 1)) → Waits a left now found′
-        next-waits from found′ larger search =
-            let one-step : waits .steps ≡ suc (waits .steps - 1) = omega (arith, waits .enough, waits .i, place-left a l (l .i) start c laid chain-begins, same-stack a b (l .from) carried) in
+        next-waits from found′ larger lowest =
+            let one-step : waits .steps ≡ suc (waits .steps - 1) = omega (arith, waits .enough, waits .i, place-left chain-begins, same-stack a b (l .from) carried) in
             let step = lay-next (waits .steps - 1) l some in
             record {
               layable = waits .layable;
@@ -156,16 +156,16 @@ module _ (a : Arena) (c : Lent) (laid found : ℕ) (waits : Waits a c laid found
               held = laid-out .held;
               same = rw start-is (sym step ∙ rw (← one-step) (waits .same));
               enough = omega (arith, waits .enough, waits .i, laid-out .i, laid-out .more, one-step);
-              lowest = search (after .slots) (between-occupied a (waits .layable) after left (laid-out .between) (laid-out .held)) ∙ resumes from larger;
+              lowest = lowest (after .slots) (between-occupied a (waits .layable) after left (laid-out .between) (laid-out .held)) ∙ resumes from larger;
             }
 
 -- ---- the loop's needs
 
-pub larger-within : (x y r m : ℕ) → Larger x y r → x ≤ m → y ≤ m → r ≤ m
-larger-within x y r m larger h k = elim (larger .one) [ inl e ↦ omega arith | inr e ↦ omega arith ]
+pub larger-within : {x y r m : ℕ} → Larger x y r → x ≤ m → y ≤ m → r ≤ m
+larger-within larger h k = elim (larger .one) [ inl e ↦ omega arith | inr e ↦ omega arith ]
 
-pub ready-small : (c : Lent) → ((a : Arena) × Ready a c) → length (c .whereFrom) ≤ capacityLimit
-ready-small c (a, ready) = omega (arith, ready .held .from-long, ready .layable .small)
+pub ready-small : {c : Lent} → ((a : Arena) × Ready a c) → length (c .whereFrom) ≤ capacityLimit
+ready-small (a, ready) = omega (arith, ready .held .from-long, ready .layable .small)
 
 module _ {old c : Lent} {laid found : ℕ} (laying : LayingOut old c laid found) where
   pub ends : found ≡ 0 → (a : Arena) → Ready a old → AllLaid a (laidOut a) c
@@ -175,7 +175,7 @@ module _ {old c : Lent} {laid found : ℕ} (laying : LayingOut old c laid found)
     pub some-rooted : ((a : Arena) × Ready a old) → (b : Arena) × Rooted b (c .prev) found
     some-rooted (a, ready) = let waits = laying .waits a ready in (waits .state .slots, rooted a c laid found waits d)
 
-    module _ (start : ℕ) (walk : (b : Arena) → Rooted b (c .prev) found → start ≡ startOf b (stackLength b) found found) where
+    module _ {start : ℕ} (walk : (b : Arena) → Rooted b (c .prev) found → start ≡ startOf b (stackLength b) found found) where
       is : (a : Arena) (waits : Waits a c laid found) → start ≡ startOf (waits .state .slots) (stackLength (waits .state .slots)) found found
       is a waits = walk (waits .state .slots) (rooted a c laid found waits d)
 
@@ -184,9 +184,9 @@ module _ {old c : Lent} {laid found : ℕ} (laying : LayingOut old c laid found)
 
       -- there is a slot for its first link
       pub some-place : ((a : Arena) × Ready a old) → laid + 1 ≤ capacityLimit
-      some-place ready = let chain = some-chain ready in place-small (chain .0) (chain .1) (chain .1 .i) start c laid (chain .2)
+      some-place ready = place-small (some-chain ready .2)
 
-      module _ (left : Lent) (now : ℕ)
+      module _ {left : Lent} {now : ℕ}
           (laid-out : (a : Arena) (l : Laying) → InChain a l (l .i) start c laid → ChainLaid a l (layChain (stackLength (l .slots)) (l .i) start l) laid left now) where
         its : (a : Arena) (waits : Waits a c laid found) → ChainLaid a (waits .state) (layChain (stackLength (waits .state .slots)) (waits .state .i) start (waits .state)) laid left now
         its a waits = laid-out a (waits .state) (chain-begins a c laid found waits d start (is a waits))
@@ -202,10 +202,10 @@ module _ {old c : Lent} {laid found : ℕ} (laying : LayingOut old c laid found)
               omega (arith, waits .held .from-long, n, waits .layable .small),
             )
 
-        pub goes-on : (from found′ : ℕ) → Larger now (found - 1) from → ((b : Arena) → Occupied b (left .whereFrom) → found′ ≡ lowestFrom b (from + 1)) → LayingOut old left now found′
-        goes-on from found′ larger search =
+        pub goes-on : {from found′ : ℕ} → Larger now (found - 1) from → ((b : Arena) → Occupied b (left .whereFrom) → found′ ≡ lowestFrom b (from + 1)) → LayingOut old left now found′
+        goes-on {from} {found′} larger lowest =
             record {
               waits = λ a ready.
                   let waits = laying .waits a ready in
-                  next-waits a c laid found waits d start (is a waits) left now (its a waits) from found′ larger search;
+                  next-waits a c laid found waits d start (is a waits) left now (its a waits) from found′ larger lowest;
             }

@@ -73,13 +73,13 @@ module _ (b : Arena) (X Y : List ℕ) (i t who : ℕ) (i1 : 1 ≤ i) (t1 : 1 ≤
       elsewhere d e = at-put-other X (at Y t) s i d ∙ sym (exchanged-other i t (at X s) e (λ q. d (named t t1 q)))
 
       free : isLink b i ≡ false → Dec (s ≡ at Y t) → at (put (put X (at Y t) i) (heldOnly who (at Y i)) t) s ≡ exchanged i t (at X s)
-      free f (yes e) = rw (held-none who (at Y i) (nobody f)) (at-put-other first 0 s t some ∙ at-t e)
-      free f (no d) = rw (held-none who (at Y i) (nobody f)) (at-put-other first 0 s t some ∙ elsewhere d (λ q. true≢false (sym (is-link i i1 q) ∙ f)))
+      free f (yes e) = rw (held-none (at Y i) (nobody f)) (at-put-other first 0 s t some ∙ at-t e)
+      free f (no d) = rw (held-none (at Y i) (nobody f)) (at-put-other first 0 s t some ∙ elsewhere d (λ q. true≢false (sym (is-link i i1 q) ∙ f)))
 
       held : Link b i → Dec (s ≡ at Y t) → Dec (s ≡ at Y i) → at (put (put X (at Y t) i) (heldOnly who (at Y i)) t) s ≡ exchanged i t (at X s)
-      held f d (yes e) = rw (held-some who (at Y i) (somebody f), ← e) (at-put-same first s t some long-then ∙ sym (exchanged-i i t (at X s) (names i f e)))
-      held f (yes e) (no d) = rw (held-some who (at Y i) (somebody f)) (at-put-other first (at Y i) s t d ∙ at-t e)
-      held f (no e) (no d) = rw (held-some who (at Y i) (somebody f)) (at-put-other first (at Y i) s t d ∙ elsewhere e (λ q. d (named i i1 q)))
+      held f d (yes e) = rw (held-some (at Y i) (somebody f), ← e) (at-put-same first s t some long-then ∙ sym (exchanged-i i t (at X s) (names i f e)))
+      held f (yes e) (no d) = rw (held-some (at Y i) (somebody f)) (at-put-other first (at Y i) s t d ∙ at-t e)
+      held f (no e) (no d) = rw (held-some (at Y i) (somebody f)) (at-put-other first (at Y i) s t d ∙ elsewhere e (λ q. d (named i i1 q)))
 
 module _ (b : Arena) (from : List ℕ) (c : Lent) (sound : Exchangeable b from) (columns : Held b from c)
     (i t : ℕ) (i1 : 1 ≤ i) (il : i ≤ stackLength b) (target : Link b t) where
@@ -128,8 +128,8 @@ module _ (b : Arena) (from : List ℕ) (c : Lent) (sound : Exchangeable b from) 
   held-within : (X : List ℕ) → ((s : ℕ) → Link b s → at X s ≢ 0 → Link b (at X s)) → heldOnly (at ws i) (at X i) ≤ n
   held-within X fine =
       by-test (isLink b i)
-      (λ f. rw (held-some (at ws i) (at X i) (somebody i f)) (names-within X fine i f))
-      (λ f. rw (held-none (at ws i) (at X i) (columns .nobody i f)) (omega arith))
+      (λ f. rw (held-some (at X i) (somebody i f)) (names-within X fine i f))
+      (λ f. rw (held-none (at X i) (columns .nobody i f)) (omega arith))
 
   inside : (X : List ℕ) → length X ≡ n → Inside X i t
   inside X e = record { i-some = i1; t-some = t1; i-within = omega arith; t-within = omega (arith, tl) }

@@ -71,7 +71,7 @@ module _ (a : Arena) (linked : DoublyLinked a) (room : Room a) (b : Arena) (w : 
         somebody = λ s h z. let came = link-came a b w carried s h in omega (arith, who-within a b w carried s (came .0) (came .1) .0);
       }
 
-module _ (a : Arena) (l : Laying) (first t : ℕ) (c : Lent) (laid : ℕ) (chain : InChain a l first t c laid) where
+module _ {a : Arena} {l : Laying} {first t : ℕ} {c : Lent} {laid : ℕ} (chain : InChain a l first t c laid) where
   abbrev b : Arena
   b = l .slots
 
@@ -111,8 +111,8 @@ module _ (a : Arena) (l : Laying) (first t : ℕ) (c : Lent) (laid : ℕ) (chain
         next = sym (at-suc (left .next) laid) ∙ held .next (suc laid) (comes-to-i b (l .from) c sound (chain .held) (suc laid) t (omega arith) place-left target);
       })
 
-  pub exchanged-laid : (left : Lent) → Exchanged c left (laid + 1) t → LinkLaid l t left (getD (left .next) laid 0)
-  exchanged-laid left x =
+  pub exchanged-laid : {left : Lent} → Exchanged c left (laid + 1) t → LinkLaid l t left (getD (left .next) laid 0)
+  exchanged-laid {left} x =
       link-laid left (exchange-holds b (l .from) c sound (chain .held) (suc laid) t (omega arith) place-left target left (rw (add-one laid) at x))
 
   pub stays-laid : laid + 1 ≡ t → LinkLaid l t c (getD (c .next) laid 0)

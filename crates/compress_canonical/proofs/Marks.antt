@@ -28,8 +28,8 @@ marking-starts gs ws e = record { within = omega arith; long = refl; room = e; m
     none zero h xs = at-zero xs
     none (suc s) h xs = absurd (omega arith)
 
-pub marking-goes-on : (gs old ws : List ℕ) (s v : ℕ) → Marking gs old ws s → s < length ws → v ≡ cond (eqb (getD gs s 0) 0) 0 (s + 1) → Marking gs old (set ws s v) (s + 1)
-marking-goes-on gs old ws s v m h e =
+pub marking-goes-on : {gs old ws : List ℕ} {s v : ℕ} → Marking gs old ws s → s < length ws → v ≡ cond (eqb (getD gs s 0) 0) 0 (s + 1) → Marking gs old (set ws s v) (s + 1)
+marking-goes-on {gs} {old} {ws} {s} {v} m h e =
     record {
       within = rw (length-set ws s v) (omega arith);
       long = length-set ws s v ∙ m .long;
@@ -51,5 +51,5 @@ marking-goes-on gs old ws s v m h e =
     free x l z (yes q) = rw q (here ∙ (e ∙ rw (eq-eqb (getD gs s 0) 0 (sym (at-suc gs s) ∙ (ap (at gs) (sym q) ∙ z))) refl))
     free x l z (no q) = elsewhere x q ∙ m .marked .free x (omega arith) z
 
-pub all-marked : (gs old ws : List ℕ) (s : ℕ) → Marking gs old ws s → length ws ≤ s → Marked gs (length gs) ws
-all-marked gs old ws s m h = let e : s ≡ length gs = omega (arith, m .within, m .room) in rw e at (m .marked)
+pub all-marked : {gs old ws : List ℕ} {s : ℕ} → Marking gs old ws s → length ws ≤ s → Marked gs (length gs) ws
+all-marked {gs} {old} {ws} {s} m h = let e : s ≡ length gs = omega (arith, m .within, m .room) in rw e at (m .marked)

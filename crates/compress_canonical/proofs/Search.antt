@@ -28,7 +28,7 @@ pub record Searching (ws : List ℕ) (from s : ℕ) : Type 0 where
 pub search-starts : (ws : List ℕ) (from : ℕ) → from ≤ length ws → Searching ws from from
 search-starts ws from h = record { begun = omega arith; within = h; same = λ b o. refl }
 
-module _ (ws : List ℕ) (from s : ℕ) (searching : Searching ws from s) where
+module _ {ws : List ℕ} {from s : ℕ} (searching : Searching ws from s) where
   is-link : (b : Arena) → Occupied b ws → getD ws s 0 ≢ 0 → Link b (suc s)
   is-link b o d = by-test (isLink b (suc s)) (λ e. e) (λ e. absurd (d (sym (at-suc ws s) ∙ o .nobody (suc s) e)))
 
@@ -61,7 +61,7 @@ pub record Back (ps : List ℕ) (o s left : ℕ) : Type 0 where
 pub back-starts : (ps : List ℕ) (o : ℕ) → Back ps o o (length ps)
 back-starts ps o = record { link = λ b r. r .link; same = λ b r. ap (λ (m : ℕ). startOf b m o o) (r .long) }
 
-module _ (ps : List ℕ) (o s left : ℕ) (back : Back ps o s left) where
+module _ {ps : List ℕ} {o s left : ℕ} (back : Back ps o s left) where
   pub back-within : (b : Arena) → Rooted b ps o → (0 < s) × (s ≤ length ps)
   back-within b r = (link-some b s (back .link b r), omega (arith, link-within b s (back .link b r), r .long))
 
@@ -71,14 +71,14 @@ module _ (ps : List ℕ) (o s left : ℕ) (back : Back ps o s left) where
   step : left ≢ 0 → (b : Arena) → Rooted b ps o → startOf b (suc (left - 1)) o s ≡ startOf b (stackLength b) o o
   step d b r = let e : suc (left - 1) ≡ left = omega arith in rw e (back .same b r)
 
-  pub back-stops : left ≢ 0 → (p : ℕ) → p ≡ at ps s → p ≡ 0 → (b : Arena) → Rooted b ps o → s ≡ startOf b (stackLength b) o o
-  back-stops d p e z b r = sym (start-stop b (left - 1) o s (names b r p e ∙ z)) ∙ step d b r
+  pub back-stops : {p : ℕ} → left ≢ 0 → p ≡ at ps s → p ≡ 0 → (b : Arena) → Rooted b ps o → s ≡ startOf b (stackLength b) o o
+  back-stops {p} d e z b r = sym (start-stop b (left - 1) o s (names b r p e ∙ z)) ∙ step d b r
 
-  pub back-round : left ≢ 0 → (p : ℕ) → p ≡ at ps s → p ≢ 0 → p ≡ o → (b : Arena) → Rooted b ps o → o ≡ startOf b (stackLength b) o o
-  back-round d p e m z b r = sym (start-round b (left - 1) o s (λ q. m (sym (names b r p e) ∙ q)) (names b r p e ∙ z)) ∙ step d b r
+  pub back-round : {p : ℕ} → left ≢ 0 → p ≡ at ps s → p ≢ 0 → p ≡ o → (b : Arena) → Rooted b ps o → o ≡ startOf b (stackLength b) o o
+  back-round {p} d e m z b r = sym (start-round b (left - 1) o s (λ q. m (sym (names b r p e) ∙ q)) (names b r p e ∙ z)) ∙ step d b r
 
-  pub back-goes-on : left ≢ 0 → (p : ℕ) → p ≡ at ps s → p ≢ 0 → p ≢ o → Back ps o p (left - 1)
-  back-goes-on d p e m k =
+  pub back-goes-on : {p : ℕ} → left ≢ 0 → p ≡ at ps s → p ≢ 0 → p ≢ o → Back ps o p (left - 1)
+  back-goes-on {p} d e m k =
       record {
         link = λ b r. rw (names b r p e) at (r .linked .prev s (back .link b r) (λ q. m (sym (names b r p e) ∙ q)) .0);
         same = λ b r.

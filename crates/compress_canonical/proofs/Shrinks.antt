@@ -23,8 +23,8 @@ filled-popped m n g gs h =
     rw (take-at (replicate m g) (drop m gs) m size)
     (settled-over n (replicate m g) (replicate m g ++ drop m gs) gs (ap (drop n) (in-front (replicate m g) gs m size) ∙ written-rest (replicate m g) gs n (omega (arith, size))))
 
-pub shrinks : (a : Arena) → Shrinkable a → (ps ns gs vs filled : List ℕ) → filled ≡ replicate (linkCount a) (current a) ++ drop (linkCount a) (a .generation) →
+pub shrinks : {a : Arena} {ps ns gs vs filled : List ℕ} → Shrinkable a → filled ≡ replicate (linkCount a) (current a) ++ drop (linkCount a) (a .generation) →
     ps ≡ popped (linkCount a) (stackLength a) (a .prev) → ns ≡ popped (linkCount a) (stackLength a) (a .next) → gs ≡ popped (linkCount a) (stackLength a) filled →
     vs ≡ popped (linkCount a) (stackLength a) (a .payload) → arena ps ns gs vs (set (set (a .header) 2 0) 0 (linkCount a)) ≡ shrunk a
 unfolding shrunk
-shrinks a can ps ns gs vs filled f p q g v = rw (p, q, g, v, f, filled-popped (linkCount a) (stackLength a) (current a) (a .generation) (can .links)) refl
+shrinks {a} can f p q g v = rw (p, q, g, v, f, filled-popped (linkCount a) (stackLength a) (current a) (a .generation) (can .links)) refl

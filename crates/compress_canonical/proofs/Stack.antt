@@ -20,7 +20,7 @@ use Rattle.compress_canonical.specs.Lent.{Lent, lent}
 use Rattle.compress_canonical.specs.Held.{Held, Marked}
 use Rattle.compress_canonical.specs.Steps.{Ready, AllLaid, Stacked, LaidIn}
 
-module _ (a : Arena) (whereFrom : List ℕ) (stacked : Stacked a whereFrom) where
+module _ {a : Arena} {whereFrom : List ℕ} (stacked : Stacked a whereFrom) where
   abbrev n : ℕ
   n = stackLength a
 
@@ -42,7 +42,7 @@ module _ (a : Arena) (whereFrom : List ℕ) (stacked : Stacked a whereFrom) wher
 
   -- ---- once the links are marked
 
-  module _ (ws : List ℕ) (long : length ws ≡ length (take (stackLength a) whereFrom))
+  module _ {ws : List ℕ} (long : length ws ≡ length (take (stackLength a) whereFrom))
       (marked : Marked (take (stackLength a) (a .generation)) (length (take (stackLength a) (a .generation))) ws) where
     ws-long : length ws ≡ n
     ws-long = long ∙ sym from-part
@@ -85,11 +85,11 @@ module _ (a : Arena) (whereFrom : List ℕ) (stacked : Stacked a whereFrom) wher
 
     -- ---- once they are laid out
 
-    pub is-laid-in : (c : Lent) → AllLaid a (laidOut a) c →
+    pub is-laid-in : {c : Lent} → AllLaid a (laidOut a) c →
         LaidIn a whereFrom
         (lent (c .prev ++ drop (stackLength a) (a .prev)) (c .next ++ drop (stackLength a) (a .next)) (c .payload ++ drop (stackLength a) (a .payload))
         (c .whereFrom ++ drop (stackLength a) (ws ++ drop (stackLength a) whereFrom)))
-    is-laid-in c laid =
+    is-laid-in {c} laid =
         record {
           laid = rw (front (c .prev) _ (held .prev-long), front (c .next) _ (held .next-long), front (c .payload) _ (held .payload-long), front (c .whereFrom) _ (held .from-long)) laid;
           rest = record {

@@ -67,7 +67,7 @@ pub record Moving (ps ns vs numbers : List ℕ) (n links k : ℕ) (ps′ ns′ v
   pub next-length : length ns′ ≡ length ns
   pub payload-length : length vs′ ≡ length vs
 
-module _ (ps ns vs numbers report : List ℕ) (n links : ℕ) (can : Movable ps ns vs numbers report n links) where
+module _ {ps ns vs numbers report : List ℕ} {n links : ℕ} (can : Movable ps ns vs numbers report n links) where
   abbrev w : List ℕ
   w = linkSlots numbers n
 
@@ -82,7 +82,7 @@ module _ (ps ns vs numbers report : List ℕ) (n links : ℕ) (can : Movable ps 
     payload-length = refl;
   }
 
-  module _ (k : ℕ) (ps′ ns′ vs′ : List ℕ) (r : Moving ps ns vs numbers n links k ps′ ns′ vs′) (h : k < links) where
+  module _ {k : ℕ} {ps′ ns′ vs′ : List ℕ} (r : Moving ps ns vs numbers n links k ps′ ns′ vs′) (h : k < links) where
     -- the next link's slot, as the report lists it
     abbrev s : ℕ
     s = getD report (4 * k) 0
@@ -136,9 +136,9 @@ module _ (ps ns vs numbers report : List ℕ) (n links : ℕ) (can : Movable ps 
       payload-length = length-set vs′ k _ ∙ r .payload-length;
     }
 
-  pub moving-done : (k : ℕ) (ps′ ns′ vs′ : List ℕ) → Moving ps ns vs numbers n links k ps′ ns′ vs′ → links ≤ k →
+  pub moving-done : {k : ℕ} {ps′ ns′ vs′ : List ℕ} → Moving ps ns vs numbers n links k ps′ ns′ vs′ → links ≤ k →
       (ps′ ≡ carried (newName numbers ps) numbers n ps) × (ns′ ≡ carried (newName numbers ns) numbers n ns) × (vs′ ≡ carried (at vs) numbers n vs)
-  moving-done k ps′ ns′ vs′ r h =
+  moving-done {k} r h =
       let all : take k w ≡ w = take-all k w (omega (arith, can .counted)) in
       (rw all at (r .prevs), rw all at (r .nexts), rw all at (r .payloads))
 
@@ -158,9 +158,9 @@ in-place f numbers column n room full same =
     let words : map f (linkSlots numbers n) ≡ take n column = map-agree f (at column) (linkSlots numbers n) (λ o i. same o (only-links numbers n o i)) ∙ rw (full .0) (sym (take-slots column n room)) in
     written-parts _ column column n (ap length words ∙ length-take-le n column room) (sym words) refl
 
-pub all-in-place : (ps ns vs numbers report : List ℕ) (n links : ℕ) → Movable ps ns vs numbers report n links → links ≡ n →
+pub all-in-place : {ps ns vs numbers report : List ℕ} {n links : ℕ} → Movable ps ns vs numbers report n links → links ≡ n →
     (ps ≡ carried (newName numbers ps) numbers n ps) × (ns ≡ carried (newName numbers ns) numbers n ns) × (vs ≡ carried (at vs) numbers n vs)
-all-in-place ps ns vs numbers report n links can e =
+all-in-place {ps} {ns} {vs} {numbers} {n = n} can e =
     let full = can .full e in (
       in-place _ numbers ps n (can .prev-within) full (λ o a. full .1 (at ps o) (can .prev o a)),
       in-place _ numbers ns n (can .next-within) full (λ o a. full .1 (at ns o) (can .next o a)),

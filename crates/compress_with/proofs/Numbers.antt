@@ -91,140 +91,140 @@ pub record Numbering (a : Arena) (n g links : ℕ) (old : List ℕ) (i count : �
 abbrev pub reportWords : ℕ → ℕ → ℕ → ℕ → List ℕ
 reportWords i count generation g = (i + 1) ∷ generation ∷ (count + 1) ∷ g ∷ []
 
-module _ (a : Arena) (n g links : ℕ) (old : List ℕ) where
+pub numbering-starts : (a : Arena) (n g links : ℕ) (old : List ℕ) → Numbering a n g links old 0 0 (a .generation) old
+unfolding keep slotsFrom movesOf
+numbering-starts a n g links old = record {
+  within = omega arith;
+  few = omega arith;
+  counted = refl;
+  named = sym (written-none (a .generation));
+  front = refl;
+  rest = refl;
+  numbers-length = refl;
+  report-length = refl;
+}
+
+module _ {a : Arena} {n g links : ℕ} {old : List ℕ} {i count : ℕ} {numbers report : List ℕ} (r : Numbering a n g links old i count numbers report) where
   abbrev gs : List ℕ
   gs = a .generation
 
-  pub numbering-starts : Numbering a n g links old 0 0 gs old
-  unfolding keep slotsFrom movesOf
-  numbering-starts = record {
-    within = omega arith;
-    few = omega arith;
-    counted = refl;
-    named = sym (written-none gs);
-    front = refl;
-    rest = refl;
-    numbers-length = refl;
-    report-length = refl;
-  }
+  passed : length (map (place (linkSlots gs n)) (slotsFrom 1 i)) ≡ i
+  passed = length-map (slotsFrom 1 i) (place (linkSlots gs n)) ∙ length-slots 1 i
 
-  module _ (i count : ℕ) (numbers report : List ℕ) (r : Numbering a n g links old i count numbers report) where
-    passed : length (map (place (linkSlots gs n)) (slotsFrom 1 i)) ≡ i
-    passed = length-map (slotsFrom 1 i) (place (linkSlots gs n)) ∙ length-slots 1 i
+  -- the next slot's generation is still there
+  pub numbering-reads : getD numbers i 0 ≡ at gs (suc i)
+  numbering-reads = ap (λ (l : List ℕ). getD l i 0) (r .named) ∙ (written-behind _ gs i (omega (arith, passed)) ∙ sym (at-suc gs i))
 
-    -- the next slot's generation is still there
-    pub numbering-reads : getD numbers i 0 ≡ at gs (suc i)
-    numbering-reads = ap (λ (l : List ℕ). getD l i 0) (r .named) ∙ (written-behind _ gs i (omega (arith, passed)) ∙ sym (at-suc gs i))
+  -- where links are left, so are slots
+  pub numbering-within : links ≡ length (linkSlots gs n) → count < links → i < n
+  unfolding linkSlots
+  numbering-within e h = go (ℕ-discrete i n)
+    where
+      go : Dec (i ≡ n) → i < n
+      go (yes q) = absurd (omega (arith, r .counted, ap (λ (k : ℕ). length (linksUpto gs n k)) q))
+      go (no d) = omega (arith, r .within)
 
-    -- where links are left, so are slots
-    pub numbering-within : links ≡ length (linkSlots gs n) → count < links → i < n
+  -- a free slot is passed over: its number is 0, as its generation was
+  module _ (h : i < n) (l : n ≤ length gs) (z : getD numbers i 0 ≡ 0) where
+    free : at gs (suc i) ≡ 0
+    free = sym numbering-reads ∙ z
+
+    same : linksUpto gs n (suc i) ≡ linksUpto gs n i
+    same = keep-not-end (allocated gs n) i (allocated-free gs n (suc i) free)
+
+    pub numbering-passes : Numbering a n g links old (suc i) count numbers report
     unfolding linkSlots
-    numbering-within e h = go (ℕ-discrete i n)
-      where
-        go : Dec (i ≡ n) → i < n
-        go (yes q) = absurd (omega (arith, r .counted, ap (λ (k : ℕ). length (linksUpto gs n k)) q))
-        go (no d) = omega (arith, r .within)
+    numbering-passes =
+        let lacks : place (linkSlots gs n) (suc i) ≡ 0 = place-lacks (allocated gs n) (suc i) 1 n (allocated-free gs n (suc i) free) in
+        let word : getD gs i 0 ≡ 0 = sym (at-suc gs i) ∙ free in
+        record {
+          within = h;
+          few = omega (arith, r .few);
+          counted = rw same (r .counted);
+          named = r .named ∙ sym (rw (map-end (place (linkSlots gs n)) i, lacks, ← word) (written-kept _ gs i passed (omega arith)));
+          front = rw same (r .front);
+          rest = r .rest;
+          numbers-length = r .numbers-length;
+          report-length = r .report-length;
+        }
 
-    -- a free slot is passed over: its number is 0, as its generation was
-    module _ (h : i < n) (l : n ≤ length gs) (z : getD numbers i 0 ≡ 0) where
-      free : at gs (suc i) ≡ 0
-      free = sym numbering-reads ∙ z
+    -- and what was reported of it counts for nothing
+    pub numbering-skips : count < links → Numbering a n g links old (i + 1) count (set numbers i 0) (sets report (4 * count) (reportWords i count (getD numbers i 0) g))
+    numbering-skips more =
+        let r′ = numbering-passes in
+        let words = reportWords i count (getD numbers i 0) g in
+        let next : linksUpto gs n (i + 1) ≡ linksUpto gs n (suc i) = rw (add-one i) refl in
+        record {
+          within = omega arith;
+          few = omega (arith, r .few);
+          counted = rw next (r′ .counted);
+          named = rw (add-one i) (ap (λ (v : ℕ). set numbers i v) (sym z) ∙ (set-getD numbers i 0 ∙ r′ .named));
+          front = rw next (take-sets-below (4 * count) report (4 * count) words (omega arith) ∙ r′ .front);
+          rest = drop-sets (4 * links) report (4 * count) words (omega arith) ∙ r .rest;
+          numbers-length = length-set numbers i 0 ∙ r .numbers-length;
+          report-length = length-sets report (4 * count) words ∙ r .report-length;
+        }
 
-      same : linksUpto gs n (suc i) ≡ linksUpto gs n i
-      same = keep-not-end (allocated gs n) i (allocated-free gs n (suc i) free)
+  module _ (h : i < n) (live : getD numbers i 0 ≡ 0 → ⊥) where
+    taken : allocated gs n (suc i) ≡ true
+    taken = allocated-yes gs n (suc i) h (λ z. live (numbering-reads ∙ z))
 
-      pub numbering-passes : Numbering a n g links old (suc i) count numbers report
-      unfolding linkSlots
-      numbering-passes =
-          let lacks : place (linkSlots gs n) (suc i) ≡ 0 = place-lacks (allocated gs n) (suc i) 1 n (allocated-free gs n (suc i) free) in
-          let word : getD gs i 0 ≡ 0 = sym (at-suc gs i) ∙ free in
-          record {
-            within = h;
-            few = omega (arith, r .few);
-            counted = rw same (r .counted);
-            named = r .named ∙ sym (rw (map-end (place (linkSlots gs n)) i, lacks, ← word) (written-kept _ gs i passed (omega arith)));
-            front = rw same (r .front);
-            rest = r .rest;
-            numbers-length = r .numbers-length;
-            report-length = r .report-length;
-          }
+    -- the next link's new slot
+    numbering-next : place (linkSlots gs n) (suc i) ≡ count + 1
+    unfolding linkSlots
+    numbering-next =
+        let e : suc i - 1 ≡ i = omega arith in
+        place-has (allocated gs n) (suc i) 1 n taken (omega arith) (omega arith)
+        ∙ (ap (λ (k : ℕ). suc (length (linksUpto gs n k))) e ∙ omega (arith, r .counted))
 
-      -- and what was reported of it counts for nothing
-      pub numbering-skips : count < links → Numbering a n g links old (i + 1) count (set numbers i 0) (sets report (4 * count) (reportWords i count (getD numbers i 0) g))
-      numbering-skips more =
-          let r′ = numbering-passes in
-          let words = reportWords i count (getD numbers i 0) g in
-          let next : linksUpto gs n (i + 1) ≡ linksUpto gs n (suc i) = rw (add-one i) refl in
-          record {
-            within = omega arith;
-            few = omega (arith, r .few);
-            counted = rw next (r′ .counted);
-            named = rw (add-one i) (ap (λ (v : ℕ). set numbers i v) (sym z) ∙ (set-getD numbers i 0 ∙ r′ .named));
-            front = rw next (take-sets-below (4 * count) report (4 * count) words (omega arith) ∙ r′ .front);
-            rest = drop-sets (4 * links) report (4 * count) words (omega arith) ∙ r .rest;
-            numbers-length = length-set numbers i 0 ∙ r .numbers-length;
-            report-length = length-sets report (4 * count) words ∙ r .report-length;
-          }
+    pub one-more : count + 1 ≤ length (linkSlots gs n)
+    one-more = rw (← numbering-next) (place-within (linkSlots gs n) (suc i))
 
-    module _ (h : i < n) (live : getD numbers i 0 ≡ 0 → ⊥) where
-      taken : allocated gs n (suc i) ≡ true
-      taken = allocated-yes gs n (suc i) h (λ z. live (numbering-reads ∙ z))
+    -- a link is numbered and reported
+    pub numbering-names : n ≤ length gs → links ≡ length (linkSlots gs n) → 4 * links ≤ length old →
+        Numbering a n g links old (i + 1) (count + 1) (set numbers i (count + 1)) (sets report (4 * count) (reportWords i count (getD numbers i 0) g))
+    numbering-names l e room =
+        let w = linkSlots gs n in
+        let words = reportWords i count (getD numbers i 0) g in
+        let more : linksUpto gs n (i + 1) ≡ linksUpto gs n i ++ (suc i ∷ []) = rw (add-one i) (keep-end (allocated gs n) i taken) in
+        let numbered-more : map (place w) (slotsFrom 1 (i + 1)) ≡ map (place w) (slotsFrom 1 i) ++ ((count + 1) ∷ []) = rw (add-one i) (rw numbering-next at (map-end (place w) i)) in
+        let enough : 4 * count + 4 ≤ 4 * links = omega (arith, one-more) in
+        let four : 4 * (count + 1) ≡ 4 * count + 4 = omega arith in
+        let told : movesOf a g 1 (linksUpto gs n (i + 1)) ≡ movesOf a g 1 (linksUpto gs n i) ++ words = rw (more, moves-end a g 1 (linksUpto gs n i) (suc i), ← numbering-reads, ← r .counted, add-one i) refl in
+        record {
+          within = omega arith;
+          few = omega (arith, r .few);
+          counted = rw (more, length-append) (omega (arith, r .counted));
+          named = rw (r .named, numbered-more) (written-more _ gs i ((count + 1) ∷ []) passed (omega arith));
+          front = rw (four, told, take-sets words report (4 * count) (omega (arith, r .report-length))) (ap (λ (t : List ℕ). t ++ words) (r .front));
+          rest = drop-sets (4 * links) report (4 * count) words enough ∙ r .rest;
+          numbers-length = length-set numbers i (count + 1) ∙ r .numbers-length;
+          report-length = length-sets report (4 * count) words ∙ r .report-length;
+        }
 
-      -- the next link's new slot
-      numbering-next : place (linkSlots gs n) (suc i) ≡ count + 1
-      unfolding linkSlots
-      numbering-next =
-          let e : suc i - 1 ≡ i = omega arith in
-          place-has (allocated gs n) (suc i) 1 n taken (omega arith) (omega arith)
-          ∙ (ap (λ (k : ℕ). suc (length (linksUpto gs n k))) e ∙ omega (arith, r .counted))
-
-      pub one-more : count + 1 ≤ length (linkSlots gs n)
-      one-more = rw (← numbering-next) (place-within (linkSlots gs n) (suc i))
-
-      -- a link is numbered and reported
-      pub numbering-names : n ≤ length gs → links ≡ length (linkSlots gs n) → 4 * links ≤ length old →
-          Numbering a n g links old (i + 1) (count + 1) (set numbers i (count + 1)) (sets report (4 * count) (reportWords i count (getD numbers i 0) g))
-      numbering-names l e room =
-          let w = linkSlots gs n in
-          let words = reportWords i count (getD numbers i 0) g in
-          let more : linksUpto gs n (i + 1) ≡ linksUpto gs n i ++ (suc i ∷ []) = rw (add-one i) (keep-end (allocated gs n) i taken) in
-          let numbered-more : map (place w) (slotsFrom 1 (i + 1)) ≡ map (place w) (slotsFrom 1 i) ++ ((count + 1) ∷ []) = rw (add-one i) (rw numbering-next at (map-end (place w) i)) in
-          let enough : 4 * count + 4 ≤ 4 * links = omega (arith, one-more) in
-          let four : 4 * (count + 1) ≡ 4 * count + 4 = omega arith in
-          let told : movesOf a g 1 (linksUpto gs n (i + 1)) ≡ movesOf a g 1 (linksUpto gs n i) ++ words = rw (more, moves-end a g 1 (linksUpto gs n i) (suc i), ← numbering-reads, ← r .counted, add-one i) refl in
-          record {
-            within = omega arith;
-            few = omega (arith, r .few);
-            counted = rw (more, length-append) (omega (arith, r .counted));
-            named = rw (r .named, numbered-more) (written-more _ gs i ((count + 1) ∷ []) passed (omega arith));
-            front = rw (four, told, take-sets words report (4 * count) (omega (arith, r .report-length))) (ap (λ (t : List ℕ). t ++ words) (r .front));
-            rest = drop-sets (4 * links) report (4 * count) words enough ∙ r .rest;
-            numbers-length = length-set numbers i (count + 1) ∙ r .numbers-length;
-            report-length = length-sets report (4 * count) words ∙ r .report-length;
-          }
-
+module _ {a : Arena} {n g links : ℕ} {old : List ℕ} (e : links ≡ length (linkSlots (a .generation) n)) (l : n ≤ length (a .generation)) where
   -- once every link is numbered, the slots left are free
-  all-passed : links ≡ length (linkSlots gs n) → n ≤ length gs → (k i count : ℕ) (numbers report : List ℕ) → Numbering a n g links old i count numbers report → links ≤ count → i + k ≡ n → Numbering a n g links old n count numbers report
-  all-passed e l zero i count numbers report r h q = let at-end : i ≡ n = omega arith in rw at-end at r
-  all-passed e l (suc k) i count numbers report r h q =
+  all-passed : (k : ℕ) {i count : ℕ} {numbers report : List ℕ} → Numbering a n g links old i count numbers report → links ≤ count → i + k ≡ n → Numbering a n g links old n count numbers report
+  all-passed zero {i} r h q = let at-end : i ≡ n = omega arith in rw at-end at r
+  all-passed (suc k) {i} {count} {numbers} r h q =
       let free : getD numbers i 0 ≡ 0 = go (ℕ-discrete (getD numbers i 0) 0) in
-      all-passed e l k (suc i) count numbers report (numbering-passes i count numbers report r (omega arith) l free) h (omega arith)
+      all-passed k (numbering-passes r (omega arith) l free) h (omega arith)
     where
       go : Dec (getD numbers i 0 ≡ 0) → getD numbers i 0 ≡ 0
       go (yes z) = z
-      go (no d) = absurd (omega (arith, one-more i count numbers report r (omega arith) d))
+      go (no d) = absurd (omega (arith, one-more r (omega arith) d))
 
-  pub numbering-done : links ≡ length (linkSlots gs n) → n ≤ length gs → (i count : ℕ) (numbers report : List ℕ) → Numbering a n g links old i count numbers report → links ≤ count → Numbered a n g old numbers report
+  pub numbering-done : {i count : ℕ} {numbers report : List ℕ} → Numbering a n g links old i count numbers report → links ≤ count → Numbered a n g old numbers report
   unfolding linkSlots numbered
-  numbering-done e l i count numbers report r h =
-      let all = all-passed e l (n - i) i count numbers report r h (omega (arith, r .within)) in
+  numbering-done {i} {count} {report = report} r h =
+      let all = all-passed (n - i) r h (omega (arith, r .within)) in
       let whole : count ≡ links = all .counted ∙ sym e in
-      let size : length (movesOf a g 1 (linkSlots gs n)) ≡ 4 * links = omega (arith, length-moves a g 1 (linkSlots gs n)) in
+      let size : length (movesOf a g 1 (linkSlots (a .generation) n)) ≡ 4 * links = omega (arith, length-moves a g 1 (linkSlots (a .generation) n)) in
       record { named = all .named; reported = written-parts _ report old (4 * links) size (rw whole at (all .front)) (all .rest) }
 
 -- the other columns and the header are not read
-pub numbered-any : (a b : Arena) (n g : ℕ) (old numbers report : List ℕ) → a .generation ≡ b .generation → Numbered a n g old numbers report → Numbered b n g old numbers report
-numbered-any a b n g old numbers report e r =
+pub numbered-any : {a : Arena} {n g : ℕ} {old numbers report : List ℕ} (b : Arena) → a .generation ≡ b .generation → Numbered a n g old numbers report → Numbered b n g old numbers report
+numbered-any {a} {n} {g} {old} b e r =
     record {
       named = rw (← e) (r .named);
       reported = r .reported ∙ ap (λ (l : List ℕ). written l old) (moves-read a b g 1 (linkSlots (a .generation) n) e ∙ ap (λ (gs : List ℕ). movesOf b g 1 (linkSlots gs n)) e);

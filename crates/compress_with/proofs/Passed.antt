@@ -25,8 +25,8 @@ neighbour-within a back x s h = go (ℕ-discrete s 0)
     go (yes z) = omega arith
     go (no d) = allocated-within (a .generation) (stackLength a) s (h d .0)
 
-pub compressible : (a : Arena) → verdict capacityLimit a ≡ 0 → (r : ℕ) → 4 * linkCount a ≤ r → Compressible (a .prev) (a .next) (a .generation) (a .payload) (stackLength a) (linkCount a) r
-compressible a v r h =
+pub compressible : (a : Arena) {r : ℕ} → verdict capacityLimit a ≡ 0 → 4 * linkCount a ≤ r → Compressible (a .prev) (a .next) (a .generation) (a .payload) (stackLength a) (linkCount a) r
+compressible a v h =
     let ok = well-formed-if-passes capacityLimit a v in
     record {
       small = omega (arith, ok .within, ok .small);
@@ -41,13 +41,13 @@ compressible a v r h =
     }
 
 -- the last word of a renewed header is the new generation
-pub renewed-word : (top : ℕ) (reset : Bool) (a : Arena) → length (a .header) ≡ headerWords → (k : ℕ) (h : List ℕ) → Renewed top reset a k h → getD h 3 0 ≡ compressGeneration top reset a
-renewed-word top reset a l k h r = ap (λ (x : List ℕ). getD x 3 0) (r .header) ∙ getD-set-same (a .header) 3 _ 0 (omega arith)
+pub renewed-word : {top : ℕ} {reset : Bool} {a : Arena} {k : ℕ} {h : List ℕ} → length (a .header) ≡ headerWords → Renewed top reset a k h → getD h 3 0 ≡ compressGeneration top reset a
+renewed-word {a = a} l r = ap (λ (x : List ℕ). getD x 3 0) (r .header) ∙ getD-set-same (a .header) 3 _ 0 (omega arith)
 
-module _ (top : ℕ) (reset : Bool) (a : Arena) (report : List ℕ) where
-  pub refused : length report < 4 * linkCount a → reply 14 [] a report ≡ compressWith top reset a report
+module _ (a : Arena) where
+  pub refused : (top : ℕ) (reset : Bool) (report : List ℕ) → length report < 4 * linkCount a → reply 14 [] a report ≡ compressWith top reset a report
   unfolding compressWith
-  refused h = rw (lt-ltb _ _ h) refl
+  refused top reset report h = rw (lt-ltb _ _ h) refl
 
   -- a compression keeps the link count
   same-count : (g : ℕ) → withLinkCount (linkCount a) (withRoot 0 (withCurrent g (a .header))) ≡ withRoot 0 (withCurrent g (a .header))
@@ -56,10 +56,10 @@ module _ (top : ℕ) (reset : Bool) (a : Arena) (report : List ℕ) where
       let word : getD h 1 0 ≡ linkCount a = getD-set-other (withCurrent g (a .header)) 2 1 0 0 (omega arith) ∙ getD-set-other (a .header) 3 1 g 0 (omega arith) in
       ap (λ (v : ℕ). set h 1 v) (sym word) ∙ set-getD h 1 0
 
-  pub compressed : (k g : ℕ) (h ps ns gs vs told : List ℕ) → 4 * linkCount a ≤ length report → g ≡ compressGeneration top reset a → Renewed top reset a k h
+  pub compressed : {top : ℕ} {reset : Bool} {k g : ℕ} {h ps ns gs vs told : List ℕ} (report : List ℕ) → 4 * linkCount a ≤ length report → g ≡ compressGeneration top reset a → Renewed top reset a k h
       → arena ps ns gs vs (compressedHeader (linkCount a) g (a .header)) ≡ relocate (linkSlots (a .generation) (stackLength a)) g a
       → told ≡ written (movesOf a g 1 (linkSlots (a .generation) (stackLength a))) report
       → reply k [] (arena ps ns gs vs (withStackLength (linkCount a) (withRoot 0 h))) told ≡ compressWith top reset a report
   unfolding compressWith
-  compressed k g h ps ns gs vs told room e r moved reported =
+  compressed {g = g} report room e r moved reported =
       rw (le-ltb _ _ room, r .number, r .header, ← e, reported, ← moved, same-count g) refl

@@ -40,7 +40,7 @@ moves-slot a g s (suc k) (o ∷ os) h =
     let e : 4 * suc k ≡ suc (suc (suc (suc (4 * k)))) = omega arith in
     rw e (moves-slot a g (suc s) k os (omega arith))
 
-module _ (ps ns gs vs : List ℕ) (n links room : ℕ) (can : Compressible ps ns gs vs n links room) where
+module _ {ps ns gs vs : List ℕ} {n links room : ℕ} (can : Compressible ps ns gs vs n links room) where
   abbrev w : List ℕ
   w = linkSlots gs n
 
@@ -57,8 +57,8 @@ module _ (ps ns gs vs : List ℕ) (n links room : ℕ) (can : Compressible ps ns
   few = omega (arith, can .counted, links-and-free gs n)
 
   -- the numbers and the report say what to move where
-  pub movable : (a : Arena) (g : ℕ) (old report : List ℕ) → report ≡ written (movesOf a g 1 w) old → room ≤ length report → Movable ps ns vs numbers report n links
-  movable a g old report e l = record {
+  pub movable : (a : Arena) (g : ℕ) (old : List ℕ) {report : List ℕ} → report ≡ written (movesOf a g 1 w) old → room ≤ length report → Movable ps ns vs numbers report n links
+  movable a g old e l = record {
     prev-within = can .prev-within;
     next-within = can .next-within;
     payload-within = can .payload-within;
@@ -101,7 +101,7 @@ module _ (ps ns gs vs : List ℕ) (n links room : ℕ) (can : Compressible ps ns
       ∙ ap (λ (l : List ℕ). settled n l gs) (ap (λ (k : ℕ). replicate k g) (can .counted) ∙ filled g w)))
 
   -- the columns together, once the links are moved down and stamped, and the slots behind them popped
-  pub relocated : (g : ℕ) (ps′ ns′ vs′ gs′ : List ℕ)
+  pub relocated : (g : ℕ) {ps′ ns′ vs′ gs′ : List ℕ}
       → ps′ ≡ carried (newName numbers ps) numbers n ps
       → ns′ ≡ carried (newName numbers ns) numbers n ns
       → vs′ ≡ carried (at vs) numbers n vs
@@ -109,5 +109,5 @@ module _ (ps ns gs vs : List ℕ) (n links room : ℕ) (can : Compressible ps ns
       → (h : List ℕ) → getD h 0 0 ≡ n
       → arena (popped links n ps′) (popped links n ns′) (popped links n gs′) (popped links n vs′) (compressedHeader links g h) ≡ relocate w g (arena ps ns gs vs h)
   unfolding relocate
-  relocated g ps′ ns′ vs′ gs′ p q v s h e =
+  relocated g p q v s h e =
       rw (p, q, v, s, renamed ps (can .prev), renamed ns (can .next), payloads, stamped g, e, can .counted) refl

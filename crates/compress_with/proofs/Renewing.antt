@@ -20,9 +20,9 @@ module _ (top : ℕ) (a : Arena) where
   unfolding raises compressGeneration compressNumber
   not-renewed z = record { number = rw (eq-eqb _ _ z) refl; header = rw (eq-eqb _ _ z) (sym (set-getD (a .header) 3 0)) }
 
-  pub renewed-by-raise : (linkCount a ≡ 0 → ⊥) → (k : ℕ) (h : List ℕ) → reply k [] (withHeader a h) [] ≡ incGeneration top a [] → Renewed top false a k h
+  pub renewed-by-raise : {k : ℕ} {h : List ℕ} → (linkCount a ≡ 0 → ⊥) → reply k [] (withHeader a h) [] ≡ incGeneration top a [] → Renewed top false a k h
   unfolding raises compressGeneration compressNumber incGeneration
-  renewed-by-raise d k h e =
+  renewed-by-raise d e =
       record {
         number = rw (ne-eqb _ _ d) (ap (λ (r : Reply). r .number) e);
         header = rw (ne-eqb _ _ d) (ap (λ (r : Reply). r .arena .header) e);

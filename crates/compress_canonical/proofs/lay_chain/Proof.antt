@@ -1,10 +1,9 @@
 -- `compress_canonical::lay_chain` meets its contract. The loop's invariant: for whatever arena is being laid out, the definition is on its way at the state that
 -- the columns hold (ChainInPlace). The measure is the number of slots that are left. Assumes nothing.
 use Prim.Native.Nat.{_+_, _-_}
-use mathlib.Core.Path.{_≡_, refl}
+use mathlib.Core.Path.{_≡_, _∙_}
 use mathlib.Core.Logic.{inl, inr}
 use native.Mathlib.Omega.{arith}
-use borrow.Author.Needs.{needs}
 use lib.ListN.{length}
 use Rattle.compress_canonical.specs.Lent.{lent, AsLong}
 use Rattle.compress_canonical.proofs.ChainInPlace.{Going, going-starts, going-chain, going-below, going-on, going-over}
@@ -20,53 +19,48 @@ abbrev μ-loop : tie.MeasureT-loop
     length where-from - count
 
 loop-holds : tie.Need-loop-holds Inv-loop μ-loop
-loop-holds c = (omega arith, going-starts _ _ _, c .before .before .before .before .pre .0)
+loop-holds c = let start : tie.Start Inv-loop μ-loop = search in (omega arith, going-starts _ _ _, start .pre .0)
 
 lay-link-requires : tie.Need-lay-link-requires Inv-loop μ-loop
-lay-link-requires c κs = going-chain (c .before .before .before .before .loop .inv .1) (c .before .before .before .before .before .before .before .before .before .pre .1)
+lay-link-requires c κs =
+    let turn : tie.At-loop Inv-loop μ-loop = search in
+    let start : tie.Start Inv-loop μ-loop = search in
+    going-chain (turn .loop .inv .1) (start .pre .1)
 
 add-count : tie.Need-add-count Inv-loop μ-loop
-add-count c = omega (arith, going-below (c .before .before .before .before .before .before .before .before .before .before .before .before .before .loop .inv .1) (c .before .before .before .before .before .before .before .before .before .before .before .before .before .before .before .before .before .before .pre .1) .1)
-
-same-length : tie.Need-same-length Inv-loop μ-loop
-same-length c = search needs
-
-same-length-2 : tie.Need-same-length-2 Inv-loop μ-loop
-same-length-2 c = search needs
-
-same-length-3 : tie.Need-same-length-3 Inv-loop μ-loop
-same-length-3 c = search needs
-
-same-length-4 : tie.Need-same-length-4 Inv-loop μ-loop
-same-length-4 c = search needs
+add-count c =
+    let turn : tie.At-loop Inv-loop μ-loop = search in
+    let start : tie.Start Inv-loop μ-loop = search in
+    omega (arith, going-below (turn .loop .inv .1) (start .pre .1) .1)
 
 returns : tie.Need-returns Inv-loop μ-loop
-returns c = going-over (c .before .before .before .before .before .before .before .before .before .before .before .before .before .before .before .loop .inv .1) _ _ _ (c .before .before .before .before .before .before .before .before .before .before .before .before .before .before .before .loop .inv .2) (c .before .before .before .before .before .before .before .before .before .before .lay-link .ensures) (inl (c .if1 .taken))
-
-same-length-5 : tie.Need-same-length-5 Inv-loop μ-loop
-same-length-5 c = search needs
-
-same-length-6 : tie.Need-same-length-6 Inv-loop μ-loop
-same-length-6 c = search needs
-
-same-length-7 : tie.Need-same-length-7 Inv-loop μ-loop
-same-length-7 c = search needs
-
-same-length-8 : tie.Need-same-length-8 Inv-loop μ-loop
-same-length-8 c = search needs
+returns c =
+    let put : tie.After-lay-link Inv-loop μ-loop = search in
+    let turn : tie.At-loop Inv-loop μ-loop = search in
+    going-over (turn .loop .inv .1) (turn .loop .inv .2) (put .lay-link .ensures) (inl (c .if1 .taken))
 
 returns-2 : tie.Need-returns-2 Inv-loop μ-loop
-returns-2 c = going-over (c .before .before .before .before .before .before .before .before .before .before .before .before .before .before .before .before .before .before .loop .inv .1) _ _ _ (c .before .before .before .before .before .before .before .before .before .before .before .before .before .before .before .before .before .before .loop .inv .2) (c .before .before .before .before .before .before .before .before .before .before .before .before .before .lay-link .ensures) (inr (c .if2 .taken))
+returns-2 c =
+    let put : tie.After-lay-link Inv-loop μ-loop = search in
+    let turn : tie.At-loop Inv-loop μ-loop = search in
+    going-over (turn .loop .inv .1) (turn .loop .inv .2) (put .lay-link .ensures) (inr (c .if2 .taken))
 
 loop-less : tie.Need-loop-less Inv-loop μ-loop
-loop-less c = omega (arith, c .before .before .before .before .before .before .before .before .before .before .before .before .before .lay-link .kept, going-below (c .before .before .before .before .before .before .before .before .before .before .before .before .before .before .before .before .before .before .loop .inv .1) (c .before .before .before .before .before .before .before .before .before .before .before .before .before .before .before .before .before .before .before .before .before .before .before .pre .1) .0)
+loop-less c =
+    let put : tie.After-lay-link Inv-loop μ-loop = search in
+    let turn : tie.At-loop Inv-loop μ-loop = search in
+    let start : tie.Start Inv-loop μ-loop = search in
+    omega (arith, put .lay-link .kept, going-below (turn .loop .inv .1) (start .pre .1) .0)
 
 loop-again : tie.Need-loop-again Inv-loop μ-loop
-loop-again c = (
-  omega (arith, c .before .before .before .before .before .before .before .before .before .before .before .before .before .lay-link .kept, c .before .before .before .before .before .before .before .before .before .before .before .before .before .before .before .before .before .before .loop .inv .0),
-  going-on (c .before .before .before .before .before .before .before .before .before .before .before .before .before .before .before .before .before .before .loop .inv .1) _ _ _ (c .before .before .before .before .before .before .before .before .before .before .before .before .before .before .before .before .before .before .loop .inv .2) (c .before .before .before .before .before .before .before .before .before .before .before .before .before .lay-link .ensures) (c .before .before .before .if1 .left) (c .if2 .left),
-  c .before .before .before .before .before .before .before .before .before .before .before .before .before .before .before .before .before .before .loop .inv .2,
-)
+loop-again c =
+    let more : tie.Else1 Inv-loop μ-loop = search in
+    let put : tie.After-lay-link Inv-loop μ-loop = search in
+    let turn : tie.At-loop Inv-loop μ-loop = search in (
+      omega (arith, put .lay-link .kept, turn .loop .inv .0),
+      going-on (turn .loop .inv .1) (turn .loop .inv .2) (put .lay-link .ensures) (more .if1 .left) (c .if2 .left),
+      turn .loop .inv .2,
+    )
 
 pub lay-chain-spec : {M : Type 1} → statement M
 lay-chain-spec =
@@ -77,15 +71,15 @@ lay-chain-spec =
     loop-holds
     lay-link-requires
     add-count
-    same-length
-    same-length-2
-    same-length-3
-    same-length-4
+    (λ c. let put : tie.After-lay-link Inv-loop μ-loop = search in let turn : tie.At-loop Inv-loop μ-loop = search in put .lay-link .kept .0 ∙ turn .loop .inv .0 .prev)
+    (λ c. let put : tie.After-lay-link Inv-loop μ-loop = search in let turn : tie.At-loop Inv-loop μ-loop = search in put .lay-link .kept .1 .0 ∙ turn .loop .inv .0 .next)
+    (λ c. let put : tie.After-lay-link Inv-loop μ-loop = search in let turn : tie.At-loop Inv-loop μ-loop = search in put .lay-link .kept .1 .1 .0 ∙ turn .loop .inv .0 .payload)
+    (λ c. let put : tie.After-lay-link Inv-loop μ-loop = search in let turn : tie.At-loop Inv-loop μ-loop = search in put .lay-link .kept .1 .1 .1 .0 ∙ turn .loop .inv .0 .whereFrom)
     returns
-    same-length-5
-    same-length-6
-    same-length-7
-    same-length-8
+    (λ c. let put : tie.After-lay-link Inv-loop μ-loop = search in let turn : tie.At-loop Inv-loop μ-loop = search in put .lay-link .kept .0 ∙ turn .loop .inv .0 .prev)
+    (λ c. let put : tie.After-lay-link Inv-loop μ-loop = search in let turn : tie.At-loop Inv-loop μ-loop = search in put .lay-link .kept .1 .0 ∙ turn .loop .inv .0 .next)
+    (λ c. let put : tie.After-lay-link Inv-loop μ-loop = search in let turn : tie.At-loop Inv-loop μ-loop = search in put .lay-link .kept .1 .1 .0 ∙ turn .loop .inv .0 .payload)
+    (λ c. let put : tie.After-lay-link Inv-loop μ-loop = search in let turn : tie.At-loop Inv-loop μ-loop = search in put .lay-link .kept .1 .1 .1 .0 ∙ turn .loop .inv .0 .whereFrom)
     returns-2
     loop-less
     loop-again)

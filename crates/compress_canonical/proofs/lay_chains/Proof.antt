@@ -18,61 +18,77 @@ abbrev μ-loop : tie.MeasureT-loop
 μ-loop prev₀ next₀ payload₀ where-from₀ laid₀ found₀ prev next payload where-from laid found = length where-from - laid
 
 lowest-link-requires : tie.Need-lowest-link-requires Inv-loop μ-loop
-lowest-link-requires c κs = (omega arith, ready-small _ (c .before .before .before .before .before .pre))
+lowest-link-requires c κs = let start : tie.Start Inv-loop μ-loop = search in (omega arith, ready-small (start .pre))
 
 loop-holds : tie.Need-loop-holds Inv-loop μ-loop
-loop-holds c = (omega arith, laying-starts _ _ (c .lowest-link .ensures))
+loop-holds c = (omega arith, laying-starts _ (c .lowest-link .ensures))
 
 start-of-requires : tie.Need-start-of-requires Inv-loop μ-loop
-start-of-requires c κs = some-rooted (c .before .before .before .loop .inv .1) (c .before .if1 .taken) (c .before .before .before .before .before .before .before .before .before .before .pre)
+start-of-requires c κs =
+    let found : tie.Then1 Inv-loop μ-loop = search in
+    let turn : tie.At-loop Inv-loop μ-loop = search in
+    let start : tie.Start Inv-loop μ-loop = search in
+    some-rooted (turn .loop .inv .1) (found .if1 .taken) (start .pre)
 
 add-t15 : tie.Need-add-t15 Inv-loop μ-loop
-add-t15 c = omega (arith, some-place (c .before .before .before .before .loop .inv .1) (c .before .before .if1 .taken) _ (c .start-of .ensures) (c .before .before .before .before .before .before .before .before .before .before .before .pre))
+add-t15 c =
+    let found : tie.Then1 Inv-loop μ-loop = search in
+    let turn : tie.At-loop Inv-loop μ-loop = search in
+    let start : tie.Start Inv-loop μ-loop = search in
+    omega (arith, some-place (turn .loop .inv .1) (found .if1 .taken) (c .start-of .ensures) (start .pre))
 
 cast-t16 : tie.Need-cast-t16 Inv-loop μ-loop
-cast-t16 c = omega (arith, some-place (c .before .before .before .before .loop .inv .1) (c .before .before .if1 .taken) _ (c .start-of .ensures) (c .before .before .before .before .before .before .before .before .before .before .before .pre))
+cast-t16 c =
+    let found : tie.Then1 Inv-loop μ-loop = search in
+    let turn : tie.At-loop Inv-loop μ-loop = search in
+    let start : tie.Start Inv-loop μ-loop = search in
+    omega (arith, some-place (turn .loop .inv .1) (found .if1 .taken) (c .start-of .ensures) (start .pre))
 
 lay-chain-requires : tie.Need-lay-chain-requires Inv-loop μ-loop
-lay-chain-requires c κs = (refl, some-chain (c .before .before .before .before .before .before .before .before .loop .inv .1) (c .before .before .before .before .before .before .if1 .taken) _ (c .before .before .before .before .start-of .ensures) (c .before .before .before .before .before .before .before .before .before .before .before .before .before .before .before .pre))
-
-cast-larger : tie.Need-cast-larger Inv-loop μ-loop
-cast-larger c = search needs
+lay-chain-requires c κs =
+    let walked : tie.After-start-of Inv-loop μ-loop = search in
+    let found : tie.Then1 Inv-loop μ-loop = search in
+    let turn : tie.At-loop Inv-loop μ-loop = search in
+    let start : tie.Start Inv-loop μ-loop = search in
+    (refl, some-chain (turn .loop .inv .1) (found .if1 .taken) (walked .start-of .ensures) (start .pre))
 
 sub-larger : tie.Need-sub-larger Inv-loop μ-loop
-sub-larger c = omega (arith, c .before .before .before .before .before .before .before .before .before .before .before .before .before .before .before .before .if1 .taken)
-
-larger-requires : tie.Need-larger-requires Inv-loop μ-loop
-larger-requires c κs = search needs
+sub-larger c = let found : tie.Then1 Inv-loop μ-loop = search in omega (arith, found .if1 .taken)
 
 lowest-link-requires-2 : tie.Need-lowest-link-requires-2 Inv-loop μ-loop
 lowest-link-requires-2 c κs =
-    let more = some-more (c .before .before .before .before .before .before .before .before .before .before .before .before .before .before .before .before .before .before .before .before .loop .inv .1) (c .before .before .before .before .before .before .before .before .before .before .before .before .before .before .before .before .before .before .if1 .taken) _ (c .before .before .before .before .before .before .before .before .before .before .before .before .before .before .before .before .start-of .ensures) _ _ (c .before .before .before .before .before .before .before .before .before .before .before .lay-chain .ensures) (c .before .before .before .before .before .before .before .before .before .before .before .before .before .before .before .before .before .before .before .before .before .before .before .before .before .before .before .pre) in
-    let kept = c .before .before .before .before .before .before .before .before .before .before .before .lay-chain .kept in
-    (larger-within _ _ _ _ (c .before .larger .ensures) (more .1) (omega arith), omega arith)
+    let laid : tie.After-lay-chain Inv-loop μ-loop = search in
+    let walked : tie.After-start-of Inv-loop μ-loop = search in
+    let found : tie.Then1 Inv-loop μ-loop = search in
+    let turn : tie.At-loop Inv-loop μ-loop = search in
+    let start : tie.Start Inv-loop μ-loop = search in
+    let more = some-more (turn .loop .inv .1) (found .if1 .taken) (walked .start-of .ensures) (laid .lay-chain .ensures) (start .pre) in
+    let from : tie.After-larger Inv-loop μ-loop = search in
+    let kept = laid .lay-chain .kept in
+    (larger-within (from .larger .ensures) (more .1) (omega arith), omega arith)
 
 loop-less : tie.Need-loop-less Inv-loop μ-loop
-loop-less c = let more = some-more (c .before .before .before .before .before .before .before .before .before .before .before .before .before .before .before .before .before .before .before .before .before .loop .inv .1) (c .before .before .before .before .before .before .before .before .before .before .before .before .before .before .before .before .before .before .before .if1 .taken) _ (c .before .before .before .before .before .before .before .before .before .before .before .before .before .before .before .before .before .start-of .ensures) _ _ (c .before .before .before .before .before .before .before .before .before .before .before .before .lay-chain .ensures) (c .before .before .before .before .before .before .before .before .before .before .before .before .before .before .before .before .before .before .before .before .before .before .before .before .before .before .before .before .pre) in omega (arith, c .before .before .before .before .before .before .before .before .before .before .before .before .lay-chain .kept, more)
+loop-less c =
+    let laid : tie.After-lay-chain Inv-loop μ-loop = search in
+    let walked : tie.After-start-of Inv-loop μ-loop = search in
+    let found : tie.Then1 Inv-loop μ-loop = search in
+    let turn : tie.At-loop Inv-loop μ-loop = search in
+    let start : tie.Start Inv-loop μ-loop = search in
+    omega (arith, laid .lay-chain .kept, some-more (turn .loop .inv .1) (found .if1 .taken) (walked .start-of .ensures) (laid .lay-chain .ensures) (start .pre))
 
 loop-again : tie.Need-loop-again Inv-loop μ-loop
-loop-again c = (
-  omega (arith, c .before .before .before .before .before .before .before .before .before .before .before .before .lay-chain .kept, c .before .before .before .before .before .before .before .before .before .before .before .before .before .before .before .before .before .before .before .before .before .loop .inv .0),
-  goes-on (c .before .before .before .before .before .before .before .before .before .before .before .before .before .before .before .before .before .before .before .before .before .loop .inv .1) (c .before .before .before .before .before .before .before .before .before .before .before .before .before .before .before .before .before .before .before .if1 .taken) _ (c .before .before .before .before .before .before .before .before .before .before .before .before .before .before .before .before .before .start-of .ensures) _ _ (c .before .before .before .before .before .before .before .before .before .before .before .before .lay-chain .ensures) _ _ (c .before .before .larger .ensures) (c .lowest-link2 .ensures),
-)
-
-same-length : tie.Need-same-length Inv-loop μ-loop
-same-length c = search needs
-
-same-length-2 : tie.Need-same-length-2 Inv-loop μ-loop
-same-length-2 c = search needs
-
-same-length-3 : tie.Need-same-length-3 Inv-loop μ-loop
-same-length-3 c = search needs
-
-same-length-4 : tie.Need-same-length-4 Inv-loop μ-loop
-same-length-4 c = search needs
+loop-again c =
+    let from : tie.After-larger Inv-loop μ-loop = search in
+    let laid : tie.After-lay-chain Inv-loop μ-loop = search in
+    let walked : tie.After-start-of Inv-loop μ-loop = search in
+    let found : tie.Then1 Inv-loop μ-loop = search in
+    let turn : tie.At-loop Inv-loop μ-loop = search in (
+      omega (arith, laid .lay-chain .kept, turn .loop .inv .0),
+      goes-on (turn .loop .inv .1) (found .if1 .taken) (walked .start-of .ensures) (laid .lay-chain .ensures) (from .larger .ensures) (c .lowest-link2 .ensures),
+    )
 
 returns : tie.Need-returns Inv-loop μ-loop
-returns c = ends (c .before .before .loop .inv .1) (c .if1 .left)
+returns c = let turn : tie.At-loop Inv-loop μ-loop = search in ends (turn .loop .inv .1) (c .if1 .left)
 
 pub lay-chains-spec : {M : Type 1} → statement M
 lay-chains-spec =
@@ -86,14 +102,14 @@ lay-chains-spec =
     add-t15
     cast-t16
     lay-chain-requires
-    cast-larger
+    (λ c. search needs)
     sub-larger
-    larger-requires
+    (λ c κs. search needs)
     lowest-link-requires-2
     loop-less
     loop-again
-    same-length
-    same-length-2
-    same-length-3
-    same-length-4
+    (λ c. search needs)
+    (λ c. search needs)
+    (λ c. search needs)
+    (λ c. search needs)
     returns)

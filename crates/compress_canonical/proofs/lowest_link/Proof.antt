@@ -14,35 +14,17 @@ Inv-loop where-from from s₀ s = Searching where-from from s
 abbrev μ-loop : tie.MeasureT-loop
 μ-loop where-from from s₀ s = length where-from - s
 
-loop-holds : tie.Need-loop-holds Inv-loop μ-loop
-loop-holds c = search-starts _ _ (c .pre .0)
-
-mul-if1 : tie.Need-mul-if1 Inv-loop μ-loop
-mul-if1 c = search needs
-
-shared-slice-read-if1 : tie.Need-shared-slice-read-if1 Inv-loop μ-loop
-shared-slice-read-if1 c = search needs
-
-add-t8 : tie.Need-add-t8 Inv-loop μ-loop
-add-t8 c = search needs
-
-cast-t9 : tie.Need-cast-t9 Inv-loop μ-loop
-cast-t9 c = search needs
-
 returns : tie.Need-returns Inv-loop μ-loop
-returns c = search-finds _ _ _ (c .before .before .before .loop .inv) (c .if1 .taken)
-
-add-s : tie.Need-add-s Inv-loop μ-loop
-add-s c = search needs
-
-loop-less : tie.Need-loop-less Inv-loop μ-loop
-loop-less c = search needs
+returns c = let turn : tie.At-loop Inv-loop μ-loop = search in search-finds (turn .loop .inv) (c .if1 .taken)
 
 loop-again : tie.Need-loop-again Inv-loop μ-loop
-loop-again c = search-goes-on _ _ _ (c .before .before .before .loop .inv) (c .before .before .loop-test .taken) (c .if1 .left)
+loop-again c =
+    let within : tie.In-loop Inv-loop μ-loop = search in
+    let turn : tie.At-loop Inv-loop μ-loop = search in
+    search-goes-on (turn .loop .inv) (within .loop-test .taken) (c .if1 .left)
 
 returns-2 : tie.Need-returns-2 Inv-loop μ-loop
-returns-2 c = search-ends _ _ _ (c .before .loop .inv) (c .loop-test .left)
+returns-2 c = let turn : tie.At-loop Inv-loop μ-loop = search in search-ends (turn .loop .inv) (c .loop-test .left)
 
 pub lowest-link-spec : {M : Type 1} → statement M
 lowest-link-spec =
@@ -50,13 +32,13 @@ lowest-link-spec =
     (tie.spec
     Inv-loop
     μ-loop
-    loop-holds
-    mul-if1
-    shared-slice-read-if1
-    add-t8
-    cast-t9
+    (λ c. search-starts _ _ (c .pre .0))
+    (λ c. search needs)
+    (λ c. search needs)
+    (λ c. search needs)
+    (λ c. search needs)
     returns
-    add-s
-    loop-less
+    (λ c. search needs)
+    (λ c. search needs)
     loop-again
     returns-2)

@@ -15,37 +15,16 @@ abbrev μ-loop : tie.MeasureT-loop
 μ-loop where-from₀ generation s₀ where-from s = length where-from - s
 
 loop-holds : tie.Need-loop-holds Inv-loop μ-loop
-loop-holds c = marking-starts _ _ (c .before .before .pre .0)
-
-mul-occupant : tie.Need-mul-occupant Inv-loop μ-loop
-mul-occupant c = search needs
-
-shared-slice-read-occupant : tie.Need-shared-slice-read-occupant Inv-loop μ-loop
-shared-slice-read-occupant c = search needs
-
-occupant-requires : tie.Need-occupant-requires Inv-loop μ-loop
-occupant-requires c κs = search needs
-
-mul-where-from : tie.Need-mul-where-from Inv-loop μ-loop
-mul-where-from c = search needs
-
-slice-write-where-from : tie.Need-slice-write-where-from Inv-loop μ-loop
-slice-write-where-from c = search needs
-
-add-s : tie.Need-add-s Inv-loop μ-loop
-add-s c = search needs
-
-loop-less : tie.Need-loop-less Inv-loop μ-loop
-loop-less c = simp length-set (omega arith)
+loop-holds c = let start : tie.Start Inv-loop μ-loop = search in marking-starts _ _ (start .pre .0)
 
 loop-again : tie.Need-loop-again Inv-loop μ-loop
-loop-again c = marking-goes-on _ _ _ _ _ (c .before .before .before .loop .inv) (c .before .before .loop-test .taken) (c .occupant .ensures)
-
-same-length : tie.Need-same-length Inv-loop μ-loop
-same-length c = search needs
+loop-again c =
+    let within : tie.In-loop Inv-loop μ-loop = search in
+    let turn : tie.At-loop Inv-loop μ-loop = search in
+    marking-goes-on (turn .loop .inv) (within .loop-test .taken) (c .occupant .ensures)
 
 returns : tie.Need-returns Inv-loop μ-loop
-returns c = all-marked _ _ _ _ (c .before .loop .inv) (c .loop-test .left)
+returns c = let turn : tie.At-loop Inv-loop μ-loop = search in all-marked (turn .loop .inv) (c .loop-test .left)
 
 pub mark-links-spec : {M : Type 1} → statement M
 mark-links-spec =
@@ -54,13 +33,13 @@ mark-links-spec =
     Inv-loop
     μ-loop
     loop-holds
-    mul-occupant
-    shared-slice-read-occupant
-    occupant-requires
-    mul-where-from
-    slice-write-where-from
-    add-s
-    loop-less
+    (λ c. search needs)
+    (λ c. search needs)
+    (λ c κs. search needs)
+    (λ c. search needs)
+    (λ c. search needs)
+    (λ c. search needs)
+    (λ c. simp length-set (omega arith))
     loop-again
-    same-length
+    (λ c. search needs)
     returns)

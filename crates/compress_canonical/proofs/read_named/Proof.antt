@@ -5,26 +5,25 @@ use Rattle.compress_canonical.proofs.Traded.{held-none, held-some}
 use Rattle.compress_canonical.proofs.read_named.Statement.{statement}
 use Rattle.compress_canonical.proofs.read_named.Tie as tie
 
-slot-at-requires : tie.Need-slot-at-requires
-slot-at-requires c κs = search needs
-
-slot-at-requires-2 : tie.Need-slot-at-requires-2
-slot-at-requires-2 c κs = search needs
-
 returns : tie.Need-returns
 returns c =
-    let who = c .before .before .slot-at2 .ensures in
-    record { moved = c .before .before .before .slot-at .ensures; other = sym (held-none _ _ (sym who ∙ c .if1 .taken)) }
-
-slot-at-requires-3 : tie.Need-slot-at-requires-3
-slot-at-requires-3 c κs = search needs
+    let who : tie.After-slot-at2 = search in
+    let read : tie.After-slot-at = search in
+    record { moved = read .slot-at .ensures; other = sym (held-none _ (sym (who .slot-at2 .ensures) ∙ c .if1 .taken)) }
 
 returns-2 : tie.Need-returns-2
 returns-2 c =
-    let who = c .before .before .before .slot-at2 .ensures in
-    let some = c .before .if1 .left in
-    record { moved = c .before .before .before .before .slot-at .ensures; other = c .slot-at3 .ensures ∙ sym (held-some _ _ (λ z. some (who ∙ z))) }
+    let some : tie.Else1 = search in
+    let who : tie.After-slot-at2 = search in
+    let read : tie.After-slot-at = search in
+    record { moved = read .slot-at .ensures; other = c .slot-at3 .ensures ∙ sym (held-some _ (λ z. some .if1 .left (who .slot-at2 .ensures ∙ z))) }
 
 pub read-named-spec : {M : Type 1} → statement M
 read-named-spec =
-    tie.close (tie.spec slot-at-requires slot-at-requires-2 returns slot-at-requires-3 returns-2)
+    tie.close
+    (tie.spec
+    (λ c κs. search needs)
+    (λ c κs. search needs)
+    returns
+    (λ c κs. search needs)
+    returns-2)

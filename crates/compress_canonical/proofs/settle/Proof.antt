@@ -3,21 +3,19 @@ use borrow.Author.Needs.{needs}
 use Rattle.compress_canonical.proofs.settle.Statement.{statement}
 use Rattle.compress_canonical.proofs.settle.Tie as tie
 
-put-at-requires : tie.Need-put-at-requires
-put-at-requires c κs = search needs
-
-put-at-requires-2 : tie.Need-put-at-requires-2
-put-at-requires-2 c κs = search needs
-
-trade-slots-requires : tie.Need-trade-slots-requires
-trade-slots-requires c κs = search needs
-
-same-length : tie.Need-same-length
-same-length c = search needs
-
 returns : tie.Need-returns
-returns c = cc
+returns c =
+    let traded : tie.After-trade-slots = search in
+    let second : tie.After-put-at2 = search in
+    let first : tie.After-put-at = search in
+    rw (← first .put-at .ensures, ← second .put-at2 .ensures) (traded .trade-slots .ensures)
 
 pub settle-spec : {M : Type 1} → statement M
 settle-spec =
-    tie.close (tie.spec put-at-requires put-at-requires-2 trade-slots-requires same-length returns)
+    tie.close
+    (tie.spec
+    (λ c κs. search needs)
+    (λ c κs. search needs)
+    (λ c κs. search needs)
+    (λ c. search needs)
+    returns)

@@ -11,29 +11,34 @@ Inv-loop prev o s₀ left₀ s left = Back prev (o .0) (s .0) left
 abbrev μ-loop : tie.MeasureT-loop
 μ-loop prev o s₀ left₀ s left = left
 
-loop-holds : tie.Need-loop-holds Inv-loop μ-loop
-loop-holds c = back-starts _ _
-
 slot-at-requires : tie.Need-slot-at-requires Inv-loop μ-loop
-slot-at-requires c κs = let root = c .before .before .before .pre in back-within _ _ _ _ (c .before .loop .inv) (root .0) (root .1)
+slot-at-requires c κs =
+    let turn : tie.At-loop Inv-loop μ-loop = search in
+    let start : tie.Start Inv-loop μ-loop = search in
+    back-within (turn .loop .inv) (start .pre .0) (start .pre .1)
 
 returns : tie.Need-returns Inv-loop μ-loop
-returns c = back-stops _ _ _ _ (c .before .before .before .before .loop .inv) (c .before .before .before .loop-test .taken) _ (c .before .before .slot-at .ensures) (c .if1 .taken)
+returns c =
+    let before : tie.After-slot-at Inv-loop μ-loop = search in
+    let within : tie.In-loop Inv-loop μ-loop = search in
+    let turn : tie.At-loop Inv-loop μ-loop = search in
+    back-stops (turn .loop .inv) (within .loop-test .taken) (before .slot-at .ensures) (c .if1 .taken)
 
 returns-2 : tie.Need-returns-2 Inv-loop μ-loop
-returns-2 c = back-round _ _ _ _ (c .before .before .before .before .before .before .before .loop .inv) (c .before .before .before .before .before .before .loop-test .taken) _ (c .before .before .before .before .before .slot-at .ensures) (c .before .before .before .if1 .left) (c .if2 .taken)
-
-sub-left : tie.Need-sub-left Inv-loop μ-loop
-sub-left c = search needs
-
-loop-less : tie.Need-loop-less Inv-loop μ-loop
-loop-less c = search needs
+returns-2 c =
+    let some : tie.Else1 Inv-loop μ-loop = search in
+    let before : tie.After-slot-at Inv-loop μ-loop = search in
+    let within : tie.In-loop Inv-loop μ-loop = search in
+    let turn : tie.At-loop Inv-loop μ-loop = search in
+    back-round (turn .loop .inv) (within .loop-test .taken) (before .slot-at .ensures) (some .if1 .left) (c .if2 .taken)
 
 loop-again : tie.Need-loop-again Inv-loop μ-loop
-loop-again c = back-goes-on _ _ _ _ (c .before .before .before .before .before .before .before .loop .inv) (c .before .before .before .before .before .before .loop-test .taken) _ (c .before .before .before .before .before .slot-at .ensures) (c .before .before .before .if1 .left) (c .if2 .left)
-
-returns-3 : tie.Need-returns-3 Inv-loop μ-loop
-returns-3 c = back-ends _ _ _ _ (c .before .loop .inv) (c .loop-test .left)
+loop-again c =
+    let some : tie.Else1 Inv-loop μ-loop = search in
+    let before : tie.After-slot-at Inv-loop μ-loop = search in
+    let within : tie.In-loop Inv-loop μ-loop = search in
+    let turn : tie.At-loop Inv-loop μ-loop = search in
+    back-goes-on (turn .loop .inv) (within .loop-test .taken) (before .slot-at .ensures) (some .if1 .left) (c .if2 .left)
 
 pub start-of-spec : {M : Type 1} → statement M
 start-of-spec =
@@ -41,11 +46,11 @@ start-of-spec =
     (tie.spec
     Inv-loop
     μ-loop
-    loop-holds
+    (λ c. back-starts _ _)
     slot-at-requires
     returns
     returns-2
-    sub-left
-    loop-less
+    (λ c. search needs)
+    (λ c. search needs)
     loop-again
-    returns-3)
+    (λ c. let turn : tie.At-loop Inv-loop μ-loop = search in back-ends (turn .loop .inv) (c .loop-test .left)))
