@@ -25,9 +25,9 @@ use Rattle.demand3.proofs.Loops.{between-end, end-links, end-only}
 use Rattle.base_freelist.specs.Popped.{popped}
 use Rattle.base_freelist.proofs.Settled.{settled-over}
 use Rattle.compress_with.specs.Moves.{Renewed}
-use Rattle.compress_canonical.specs.Lent.{Lent, lent, front}
-use Rattle.compress_canonical.specs.Held.{Held}
-use Rattle.compress_canonical.specs.Steps.{Layable, Stacked, LaidIn}
+use Rattle.canonical_exchange.specs.Lent.{Lent, lent, front}
+use Rattle.canonical_layout.specs.Held.{Held}
+use Rattle.canonical_layout.specs.Steps.{Layable, Stacked, LaidIn}
 use Rattle.compress_canonical.specs.Shrunk.{shrunk, Shrinkable}
 
 at-zeros : (k s : ℕ) → at (replicate k 0) s ≡ 0

@@ -12,7 +12,7 @@ use lib.ListN.{length, getD, set, length-set}
 use borrow.Author.Tests.{eq-eqb, ne-eqb}
 use Rattle.definitions.specs.Columns.{at, put}
 use Rattle.definitions.proofs.Columns.{at-zero, at-suc, at-put-same, at-put-other}
-use Rattle.compress_canonical.specs.Held.{Marked}
+use Rattle.canonical_layout.specs.Held.{Marked}
 
 -- the slots up to s are marked
 pub record Marking (gs old ws : List ℕ) (s : ℕ) : Type 0 where

@@ -16,9 +16,9 @@ use Rattle.definitions.proofs.Slots.{allocated-live, not-allocated}
 use Rattle.definitions.proofs.Parts.{at-past, at-take, at-own}
 use Rattle.chains.proofs.Links.{link-within}
 use Rattle.demand3.proofs.Carried.{same-stack}
-use Rattle.compress_canonical.specs.Lent.{Lent, lent}
-use Rattle.compress_canonical.specs.Held.{Held, Marked}
-use Rattle.compress_canonical.specs.Steps.{Ready, AllLaid, Stacked, LaidIn}
+use Rattle.canonical_exchange.specs.Lent.{Lent, lent}
+use Rattle.canonical_layout.specs.Held.{Held, Marked}
+use Rattle.canonical_layout.specs.Steps.{Ready, AllLaid, Stacked, LaidIn}
 
 module _ {a : Arena} {whereFrom : List ℕ} (stacked : Stacked a whereFrom) where
   abbrev n : ℕ
