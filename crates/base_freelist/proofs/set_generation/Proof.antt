@@ -7,4 +7,10 @@ use Rattle.base_freelist.proofs.set_generation.Tie as tie
 
 pub set-generation-spec : {M : Type 1} → statement M
 unfolding setGeneration
-set-generation-spec = tie.close (tie.spec (λ c ps ns gs vs. search tests) (λ c. search needs) (λ c. search needs) (λ c ps ns gs vs. search tests))
+set-generation-spec =
+    tie.close
+    (tie.spec
+    (λ c ps ns gs vs. search tests)
+    (λ c. search needs)
+    (λ c. search needs)
+    (λ c ps ns gs vs. search tests))

@@ -22,4 +22,11 @@ returns-3 c =
     rw (le-leb _ _ (within .if2 .left), ← c .word-at .ensures) refl
 
 pub is-link-spec : {M : Type 1} → statement M
-is-link-spec = tie.close (tie.spec returns returns-2 (λ c. search needs) (λ c κs. search needs) returns-3)
+is-link-spec =
+    tie.close
+    (tie.spec
+    returns
+    returns-2
+    (λ c. search needs)
+    (λ c κs. search needs)
+    returns-3)

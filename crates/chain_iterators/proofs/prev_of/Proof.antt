@@ -13,4 +13,11 @@ returns-2 c =
 
 pub prev-of-spec : {M : Type 1} → statement M
 prev-of-spec =
-    tie.close (tie.spec (λ c κs. search needs) (λ c. search tests depth 10) (λ c. let asked : tie.After-is-link = search in omega (arith, link-slot _ _ _ (came-true _ _ (asked .is-link .ensures) (c .if1 .left)))) (λ c κs. let asked : tie.After-is-link = search in omega (arith, link-slot _ _ _ (came-true _ _ (asked .is-link .ensures) (c .if1 .left)))) (λ c. search needs) returns-2)
+    tie.close
+    (tie.spec
+    (λ c κs. search needs)
+    (λ c. search tests depth 10)
+    (λ c. let asked : tie.After-is-link = search in omega (arith, link-slot _ _ _ (came-true _ _ (asked .is-link .ensures) (c .if1 .left))))
+    (λ c κs. let asked : tie.After-is-link = search in omega (arith, link-slot _ _ _ (came-true _ _ (asked .is-link .ensures) (c .if1 .left))))
+    (λ c. search needs)
+    returns-2)

@@ -6,26 +6,37 @@ use Rattle.chain_traits.proofs.Found.{found, found-within, found-link, 
 use Rattle.chain_traits.proofs.get_link.Statement.{statement}
 use Rattle.chain_traits.proofs.get_link.Tie as tie
 
-get-link-no-gen-requires : tie.Need-get-link-no-gen-requires
-get-link-no-gen-requires c κs = shaped _ _ (c .before .before .before .before .before .pre)
-
 pointer-to-requires : tie.Need-pointer-to-requires
-pointer-to-requires c κs = found-within _ _ _ _ (c .before .before .before .before .before .before .before .before .before .pre) (found _ _ _ (rw (c .before .l .given .1) at (c .before .before .before .get-link-no-gen .ensures))) .0
+pointer-to-requires c κs =
+    let link : tie.After-l = search in
+    let read : tie.After-get-link-no-gen = search in
+    let start : tie.Start = search in
+    found-within _ _ _ _ (start .pre) (found _ _ _ (rw (link .l .given .1) at (read .get-link-no-gen .ensures))) .0
 
 pointer-to-requires-2 : tie.Need-pointer-to-requires-2
-pointer-to-requires-2 c κs = found-within _ _ _ _ (c .before .before .before .before .before .before .before .before .before .before .pre) (found _ _ _ (rw (c .before .before .l .given .1) at (c .before .before .before .before .get-link-no-gen .ensures))) .1
+pointer-to-requires-2 c κs =
+    let link : tie.After-l = search in
+    let read : tie.After-get-link-no-gen = search in
+    let start : tie.Start = search in
+    found-within _ _ _ _ (start .pre) (found _ _ _ (rw (link .l .given .1) at (read .get-link-no-gen .ensures))) .1
 
 returns : tie.Need-returns
-returns c = none-found _ _ (rw (c .enum-told .given .1) at (c .before .before .get-link-no-gen .ensures))
+returns c =
+    let read : tie.After-get-link-no-gen = search in
+    none-found _ _ (rw (c .enum-told .given .1) at (read .get-link-no-gen .ensures))
 
 returns-2 : tie.Need-returns-2
-returns-2 c = found-link _ _ _ _ _ (found _ _ _ (rw (c .before .before .before .l .given .1) at (c .before .before .before .before .before .get-link-no-gen .ensures))) (c .before .pointer-to .ensures) (c .pointer-to2 .ensures)
+returns-2 c =
+    let before : tie.After-pointer-to = search in
+    let link : tie.After-l = search in
+    let read : tie.After-get-link-no-gen = search in
+    found-link _ _ _ _ _ (found _ _ _ (rw (link .l .given .1) at (read .get-link-no-gen .ensures))) (before .pointer-to .ensures) (c .pointer-to2 .ensures)
 
 pub get-link-spec : {M : Type 1} → statement M
 get-link-spec =
     tie.close
     (tie.spec
-    get-link-no-gen-requires
+    (λ c κs. let start : tie.Start = search in shaped _ _ (start .pre))
     (λ c. search needs)
     (λ c. search needs)
     pointer-to-requires

@@ -5,11 +5,10 @@ use Rattle.definitions.proofs.Columns.{at-zero}
 use Rattle.chain_traits.proofs.pointer_to.Statement.{statement}
 use Rattle.chain_traits.proofs.pointer_to.Tie as tie
 
-returns : tie.Need-returns
-returns c = rw (c .if1 .taken, at-zero) refl
-
-returns-2 : tie.Need-returns-2
-returns-2 c = rw (c .word-at .ensures) refl
-
 pub pointer-to-spec : {M : Type 1} → statement M
-pointer-to-spec = tie.close (tie.spec returns (λ c κs. search needs) returns-2)
+pointer-to-spec =
+    tie.close
+    (tie.spec
+    (λ c. rw (c .if1 .taken, at-zero) refl)
+    (λ c κs. search needs)
+    (λ c. rw (c .word-at .ensures) refl))

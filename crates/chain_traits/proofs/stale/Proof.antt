@@ -6,21 +6,14 @@ use Rattle.chain_traits.specs.Read.{staleIn}
 use Rattle.chain_traits.proofs.stale.Statement.{statement}
 use Rattle.chain_traits.proofs.stale.Tie as tie
 
-returns : tie.Need-returns
-unfolding staleIn stale
-returns c = search tests depth 20
-
-returns-2 : tie.Need-returns-2
-unfolding staleIn stale
-returns-2 c = search tests depth 20
-
-returns-3 : tie.Need-returns-3
-unfolding staleIn stale
-returns-3 c = rw (← c .before .word-at .ensures) (search tests depth 20)
-
-returns-4 : tie.Need-returns-4
-unfolding staleIn stale
-returns-4 c = rw (← c .before .before .word-at .ensures) (search tests depth 20)
-
 pub stale-spec : {M : Type 1} → statement M
-stale-spec = tie.close (tie.spec returns (λ c. search needs) returns-2 (λ c κs. search needs) returns-3 returns-4)
+unfolding staleIn stale
+stale-spec =
+    tie.close
+    (tie.spec
+    (λ c. search tests depth 20)
+    (λ c. search needs)
+    (λ c. search tests depth 20)
+    (λ c κs. search needs)
+    (λ c. let read : tie.After-word-at = search in rw (← read .word-at .ensures) (search tests depth 20))
+    (λ c. let read : tie.After-word-at = search in rw (← read .word-at .ensures) (search tests depth 20)))

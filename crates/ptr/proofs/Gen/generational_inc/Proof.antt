@@ -6,16 +6,11 @@ use Rattle.definitions.proofs.Tests.{tests}
 use Rattle.ptr.proofs.Gen.generational_inc.Statement.{statement}
 use Rattle.ptr.proofs.Gen.generational_inc.Tie as tie
 
-returns : tie.Need-returns
-unfolding nextGeneration overflows
-returns c = search tests depth 10
-
-add-t5 : tie.Need-add-t5
-add-t5 c = search needs
-
-returns-2 : tie.Need-returns-2
-unfolding nextGeneration overflows
-returns-2 c = search tests depth 10
-
 pub generational-inc-spec : {M : Type 1} → statement M
-generational-inc-spec = tie.close (tie.spec returns add-t5 returns-2)
+unfolding nextGeneration overflows
+generational-inc-spec =
+    tie.close
+    (tie.spec
+    (λ c. search tests depth 10)
+    (λ c. search needs)
+    (λ c. search tests depth 10))
