@@ -2,6 +2,9 @@
 ghost use Prim.Native.Nat.{_≤_};
 ghost use Rattle.io.specs.Counts.{Counts};
 
+// The word that is the code of the call.
+pub const CODE: usize = 0;
+
 // The parts, in the order of the line. A shape names a column or the header by this number.
 pub const PREV: usize = 1;
 
@@ -31,11 +34,6 @@ fn count_at(case: &[u32; 192], i: usize) -> usize
         return 64;
     }
     count
-}
-
-// The code of the call.
-pub fn code(case: &[u32; 192]) -> u32 {
-    case[0]
 }
 
 // Where a part begins.

@@ -1,4 +1,5 @@
-// Lines of decimal numbers with a space between them, from standard input.
+// Lines of decimal numbers with a space between them, from standard input. A line is taken as it stands: the tests of oracle/src/bin/record.rs hold each
+// stored line to its form.
 
 // What is read: a byte, or the end of the input.
 enum Read {

@@ -2,6 +2,7 @@
 use answers::Answer;
 use level_three_compress_canonical::chain_arena_compress_canonical;
 use level_three_compress_with::chain_arena_compress_with;
+use replay_cases::CODE;
 use replay_cases::GENERATION;
 use replay_cases::HEADER;
 use replay_cases::LENT;
@@ -9,7 +10,6 @@ use replay_cases::NEXT;
 use replay_cases::PAYLOAD;
 use replay_cases::PREV;
 use replay_cases::arguments_of;
-use replay_cases::code;
 use replay_cases::lent_of;
 use replay_cases::next_case;
 use replay_cases::no_call;
@@ -78,18 +78,18 @@ fn compress_canonical(case: &[u32; 192]) {
 
 // Replays a case.
 fn replay(case: &[u32; 192]) {
-    match code(case) {
+    match case[CODE] {
         17 => compress_with(case),
         18 => compress_canonical(case),
         _ => write_answer(no_call()),
     }
 }
 
-// Replays the cases of standard input.
+// Replays the cases of standard input, up to its end.
 fn main() {
     for i in 0..65536usize {
         let case = next_case();
-        if code(&case) == 0 {
+        if case[CODE] == 0 {
             return;
         }
         replay(&case);

@@ -9,13 +9,13 @@ use level_two_generation::chain_arena_canonicalize_freelist;
 use level_two_generation::chain_arena_inc_generation;
 use level_two_generation::chain_arena_set_generation;
 use replay_cases::Arguments;
+use replay_cases::CODE;
 use replay_cases::GENERATION;
 use replay_cases::HEADER;
 use replay_cases::NEXT;
 use replay_cases::PAYLOAD;
 use replay_cases::PREV;
 use replay_cases::arguments_of;
-use replay_cases::code;
 use replay_cases::lent_of;
 use replay_cases::next_case;
 use replay_cases::no_call;
@@ -24,14 +24,14 @@ use replay_cases::words_of;
 use replay_cases::write_answer;
 use replay_cases::write_arena;
 
-// Makes the call of a code.
-fn call(
+// Makes the call of a code that edits interlinks.
+fn edit(
     code: u32,
     prev: &mut [u16],
     next: &mut [u16],
-    generation: &mut [u32],
-    payload: &mut [u32],
-    header: &mut [u32],
+    generation: &[u32],
+    payload: &[u32],
+    header: &[u32],
     a: Arguments,
 ) -> Answer {
     match code {
@@ -59,10 +59,40 @@ fn call(
             a.other_slot,
             a.fourth,
         ),
-        13 => chain_arena_set_generation(prev, next, generation, payload, header, a.first),
-        14 => chain_arena_inc_generation(prev, next, generation, payload, header),
-        15 => chain_arena_canonicalize_freelist(prev, next, generation, payload, header),
         _ => no_call(),
+    }
+}
+
+// Makes the call of a code that sets the current generation.
+fn set_generation(
+    code: u32,
+    prev: &[u16],
+    next: &[u16],
+    generation: &[u32],
+    payload: &[u32],
+    header: &mut [u32],
+    a: Arguments,
+) -> Answer {
+    match code {
+        13 => chain_arena_set_generation(prev, next, generation, payload, header, a.first),
+        _ => chain_arena_inc_generation(prev, next, generation, payload, header),
+    }
+}
+
+// Makes the call of a code.
+fn call(
+    code: u32,
+    prev: &mut [u16],
+    next: &mut [u16],
+    generation: &mut [u32],
+    payload: &mut [u32],
+    header: &mut [u32],
+    a: Arguments,
+) -> Answer {
+    match code {
+        13 | 14 => set_generation(code, prev, next, generation, payload, header, a),
+        15 => chain_arena_canonicalize_freelist(prev, next, generation, payload, header),
+        _ => edit(code, prev, next, generation, payload, header, a),
     }
 }
 
@@ -79,7 +109,7 @@ fn replay(case: &[u32; 192]) {
     let mut payload = words_of(case, PAYLOAD, w);
     let mut header = words_of(case, HEADER, h);
     let answer = call(
-        code(case),
+        case[CODE],
         &mut prev[..p],
         &mut next[..q],
         &mut generation[..g],
@@ -91,11 +121,11 @@ fn replay(case: &[u32; 192]) {
     write_arena(prev, p, next, q, generation, g, payload, w, header, h);
 }
 
-// Replays the cases of standard input.
+// Replays the cases of standard input, up to its end.
 fn main() {
     for i in 0..65536usize {
         let case = next_case();
-        if code(&case) == 0 {
+        if case[CODE] == 0 {
             return;
         }
         replay(&case);

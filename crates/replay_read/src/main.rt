@@ -12,13 +12,13 @@ use level_one_walk::WalkResult;
 use level_one_walk::chain_arena_walk_start;
 use level_one_walk::chain_arena_walk_step;
 use replay_cases::Arguments;
+use replay_cases::CODE;
 use replay_cases::GENERATION;
 use replay_cases::HEADER;
 use replay_cases::NEXT;
 use replay_cases::PAYLOAD;
 use replay_cases::PREV;
 use replay_cases::arguments_of;
-use replay_cases::code;
 use replay_cases::lent_of;
 use replay_cases::next_case;
 use replay_cases::no_call;
@@ -143,7 +143,7 @@ fn replay(case: &[u32; 192]) {
     let payload = words_of(case, PAYLOAD, w);
     let header = words_of(case, HEADER, h);
     call(
-        code(case),
+        case[CODE],
         &prev[..p],
         &next[..q],
         &generation[..g],
@@ -154,11 +154,11 @@ fn replay(case: &[u32; 192]) {
     write_arena(prev, p, next, q, generation, g, payload, w, header, h);
 }
 
-// Replays the cases of standard input.
+// Replays the cases of standard input, up to its end.
 fn main() {
     for i in 0..65536usize {
         let case = next_case();
-        if code(&case) == 0 {
+        if case[CODE] == 0 {
             return;
         }
         replay(&case);

@@ -12,7 +12,7 @@ main-spec =
     (λ i₀ i. 65536 - i)
     (λ c. search needs)
     (λ c κs. search needs)
-    (λ c κs. search needs)
+    (λ c. search needs)
     (λ c. search needs)
     (λ c κs. search needs)
     (λ c. search needs)
