@@ -1,4 +1,5 @@
 -- `compress_canonical::shrink` meets its contract: a column filled and popped is the settled one (Shrinks). Assumes nothing.
+use mathlib.Core.Path.{_∙_}
 use native.Mathlib.Omega.{arith}
 use lib.ListN.{length-set}
 use borrow.Author.Needs.{needs}
@@ -32,7 +33,7 @@ shrink-spec =
     slice-write-header-2
     (λ c. search needs)
     (λ c. search needs)
+    (λ c. let popped : tie.After-pop-slots = search in let filled : tie.After-fill-generation = search in popped .pop-slots .kept .1 .1 .0 ∙ filled .fill-generation .kept .0)
     (λ c. search needs)
-    (λ c. search needs)
-    (λ c. search needs)
+    (λ c. simp length-set)
     returns)
