@@ -64,7 +64,7 @@ pub record Counting (a : Arena) (w₀ w : Walk) (links : ℕ) : Type 0 where
 pub counting-starts : (a : Arena) (w₀ : Walk) → Counting a w₀ w₀ 0
 counting-starts a w₀ = record { all = omega arith }
 
-module _ (a : Arena) (w₀ w : Walk) (links : ℕ) (c : Counting a w₀ w links) (r : Stepped) (e : r ≡ step a w) where
+module _ {a : Arena} {w₀ w : Walk} {links : ℕ} (c : Counting a w₀ w links) {r : Stepped} (e : r ≡ step a w) where
   pub counting-ends : r .answer .slot ≡ 0 → links ≡ length (slotsAhead a w₀)
   counting-ends z = let all = c .all in omega (arith, ap length (ahead-none a w r e z))
 

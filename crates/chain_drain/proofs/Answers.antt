@@ -28,12 +28,12 @@ use Rattle.chain_drain.specs.Drained.{drainReply}
 use Rattle.chain_drain.specs.Items.{slotsAhead, Listed, ItemsDrained}
 
 -- a report that is not too short has room
-pub has-room : (room words : ℕ) (r : Bool) → r ≡ ltb room words → r ≡ false → words ≤ room
-has-room room words r e f = ltb-false room words (sym e ∙ f)
+pub has-room : (room words : ℕ) {r : Bool} → r ≡ ltb room words → r ≡ false → words ≤ room
+has-room room words e f = ltb-false room words (sym e ∙ f)
 
 -- also once the slots are listed in it
-pub listed-room : (ss old new : List ℕ) (items : ℕ) → Listed ss old new items → length new ≡ length old → 5 * length ss ≤ length old → 5 * items ≤ length new
-listed-room ss old new items l same room = let all = l .all in omega arith
+pub listed-room : {ss old new : List ℕ} {items : ℕ} → Listed ss old new items → length new ≡ length old → 5 * length ss ≤ length old → 5 * items ≤ length new
+listed-room l same room = let all = l .all in omega arith
 
 -- a walk that was started at p
 pub record StartedAt (a : Arena) (p : Pointer) (w : ChainPtrAdvancer) : Type 0 where
@@ -56,30 +56,30 @@ module _ (a : Arena) (p : Pointer) where
       (λ s. rw s refl)
       (λ s. let z : _≡_ {A = ℕ} 12 0 = ap (λ (r : Reply). r .number) (rw s at e) in absurd (omega arith))
 
-  module _ (w : ChainPtrAdvancer) (start : StartedAt a p w) where
-    -- the slots ahead are the whole walk's
-    whole : slotsAhead a (walkOf w) ≡ walkFrom a (p .slot)
-    whole = ap (slotsAhead a) (start .state)
+module _ {a : Arena} {p : Pointer} {w : ChainPtrAdvancer} (start : StartedAt a p w) where
+  -- the slots ahead are the whole walk's
+  whole : slotsAhead a (walkOf w) ≡ walkFrom a (p .slot)
+  whole = ap (slotsAhead a) (start .state)
 
-    -- the report is too short
-    pub drain-short : (top : ℕ) (report : List ℕ) (r : Bool) → r ≡ ltb (length report) (5 * length (slotsAhead a (walkOf w))) → r ≡ true → drainReply Short a report ≡ drain top a p report
-    unfolding drain
-    drain-short top report r e t = rw (start .fresh, ← whole, ← e, t) refl
+  -- the report is too short
+  pub drain-short : (top : ℕ) (report : List ℕ) {r : Bool} → r ≡ ltb (length report) (5 * length (slotsAhead a (walkOf w))) → r ≡ true → drainReply Short a report ≡ drain top a p report
+  unfolding drain
+  drain-short top report e t = rw (start .fresh, ← whole, ← e, t) refl
 
-    -- the slots are listed
-    module _ (report listed : List ℕ) (items : ℕ) (l : Listed (slotsAhead a (walkOf w)) report listed items) where
-      slots : itemSlots items listed ≡ walkFrom a (p .slot)
-      slots = l .slots ∙ whole
+  -- the slots are listed
+  module _ {report listed : List ℕ} {items : ℕ} (l : Listed (slotsAhead a (walkOf w)) report listed items) where
+    slots : itemSlots items listed ≡ walkFrom a (p .slot)
+    slots = l .slots ∙ whole
 
-      pub drain-can : (limit : ℕ) → WellFormed limit a → Drainable limit a (itemSlots items listed)
-      drain-can limit ok =
-          let walks = walk-gives-chain limit a ok (p .slot) (fresh-link a p (start .fresh)) in
-          rw slots (record { arena = ok; links = walks .links; once = walks .once })
+    pub drain-can : {limit : ℕ} → WellFormed limit a → Drainable limit a (itemSlots items listed)
+    drain-can {limit} ok =
+        let walks = walk-gives-chain limit a ok (p .slot) (fresh-link a p (start .fresh)) in
+        rw slots (record { arena = ok; links = walks .links; once = walks .once })
 
-      pub drain-done :
-          (top : ℕ) → 5 * length (slotsAhead a (walkOf w)) ≤ length report → (left : Arena) (words : List ℕ) (overflowed : ℕ)
-          → ItemsDrained top a (itemSlots items listed) listed left words overflowed → drainReply (Done items overflowed) left words ≡ drain top a p report
-      unfolding drain written
-      drain-done top room left words overflowed done =
-          let fits : ltb (length report) (5 * length (itemSlots items listed)) ≡ false = le-ltb (length report) (5 * length (itemSlots items listed)) (rw (l .slots) room) in
-          rw (start .fresh, ← slots, fits, done .arena, done .report, done .overflowed, length-drained, length-items, l .rest) refl
+    pub drain-done :
+        {top : ℕ} {left : Arena} {words : List ℕ} {overflowed : ℕ} → 5 * length (slotsAhead a (walkOf w)) ≤ length report
+        → ItemsDrained top a (itemSlots items listed) listed left words overflowed → drainReply (Done items overflowed) left words ≡ drain top a p report
+    unfolding drain written
+    drain-done room done =
+        let fits : ltb (length report) (5 * length (itemSlots items listed)) ≡ false = le-ltb (length report) (5 * length (itemSlots items listed)) (rw (l .slots) room) in
+        rw (start .fresh, ← slots, fits, done .arena, done .report, done .overflowed, length-drained, length-items, l .rest) refl

@@ -64,7 +64,7 @@ overflow-on known item over later =
     this true = rw (ne-eqb (item + 1) 0 (λ z. omega arith)) refl
     this false = refl
 
-module _ (limit top : ℕ) (a₀ : Arena) (old : List ℕ) (items : ℕ) (a : Arena) (new : List ℕ) (item known : ℕ) (d : Draining limit top a₀ old items a new item known) where
+module _ {limit top : ℕ} {a₀ : Arena} {old : List ℕ} {items : ℕ} {a : Arena} {new : List ℕ} {item known : ℕ} (d : Draining limit top a₀ old items a new item known) where
   -- all items are drained
   pub draining-ends : items ≤ item → ItemsDrained top a₀ (itemSlots items old) old a new known
   unfolding itemSlots removedAll drainItems overflowItem written
@@ -106,7 +106,7 @@ module _ (limit top : ℕ) (a₀ : Arena) (old : List ℕ) (items : ℕ) (a : Ar
     pub next-room : 5 * item + 5 ≤ length new
     next-room = let room = d .room in omega arith
 
-    module _ (b : Arena) (words : List ℕ) (over : Bool) (drained : ItemDrained top a (getD new (5 * item) 0) (5 * item) new b words over) where
+    module _ {b : Arena} {words : List ℕ} {over : Bool} (drained : ItemDrained top a (getD new (5 * item) 0) (5 * item) new b words over) where
       five : 5 * (item + 1) ≡ 5 * item + 5
       five = omega arith
 

@@ -26,7 +26,7 @@ listing-starts a w₀ old = record { slots = refl; rest = refl; size = refl }
 pub drop-later : (i j : ℕ) (xs ys : List ℕ) → drop i xs ≡ drop i ys → drop (i + j) xs ≡ drop (i + j) ys
 drop-later i j xs ys e = sym (drop-drop j i xs) ∙ ap (drop j) e ∙ drop-drop j i ys
 
-module _ (a : Arena) (w₀ w : Walk) (old new : List ℕ) (items : ℕ) (l : Listing a w₀ w old new items) (r : Stepped) (e : r ≡ step a w) where
+module _ {a : Arena} {w₀ w : Walk} {old new : List ℕ} {items : ℕ} (l : Listing a w₀ w old new items) {r : Stepped} (e : r ≡ step a w) where
   all : items + length (slotsAhead a w) ≡ length (slotsAhead a w₀)
   all = ap (λ (n : ℕ). n + length (slotsAhead a w)) (sym (length-items items new)) ∙ sym (length-append (itemSlots items new) (slotsAhead a w)) ∙ ap length (l .slots)
 

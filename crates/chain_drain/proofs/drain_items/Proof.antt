@@ -17,58 +17,34 @@ abbrev μ-loop : tie.MeasureT-loop
 μ-loop prev₀ next₀ generation₀ payload₀ header₀ report₀ items overflowed₀ item₀ prev next generation payload header report overflowed item = items - item
 
 loop-holds : tie.Need-loop-holds Inv-loop μ-loop
-loop-holds c = draining-starts _ _ _ _ _ (c .before .before .before .before .before .before .pre .0) (c .before .before .before .before .before .before .pre .1)
-
-cast-drain-item : tie.Need-cast-drain-item Inv-loop μ-loop
-cast-drain-item c = omega arith
-
-mul-drain-item : tie.Need-mul-drain-item Inv-loop μ-loop
-mul-drain-item c = omega arith
+loop-holds c = let start : tie.Start Inv-loop μ-loop = search in draining-starts _ _ _ _ _ (start .pre .0) (start .pre .1)
 
 drain-item-requires : tie.Need-drain-item-requires Inv-loop μ-loop
-drain-item-requires c κs = (
-  removable _ _ (c .before .before .before .before .before .before .before .loop .inv .rest .arena) (next-link _ _ _ _ _ _ _ _ _ (c .before .before .before .before .before .before .before .loop .inv) (c .before .before .before .before .before .before .loop-test .taken)),
-  (
-    next-small _ _ _ _ _ _ _ _ _ (c .before .before .before .before .before .before .before .loop .inv) (c .before .before .before .before .before .before .loop-test .taken),
-    next-room _ _ _ _ _ _ _ _ _ (c .before .before .before .before .before .before .before .loop .inv) (c .before .before .before .before .before .before .loop-test .taken),
-  ),
-)
+drain-item-requires c κs =
+    let more : tie.In-loop Inv-loop μ-loop = search in
+    let at : tie.At-loop Inv-loop μ-loop = search in
+    let inv = at .loop .inv in
+    let next = more .loop-test .taken in
+    (removable _ _ (inv .rest .arena) (next-link inv next), (next-small inv next, next-room inv next))
 
 add-item : tie.Need-add-item Inv-loop μ-loop
-add-item c = omega (arith, c .before .before .before .before .before .before .before .before .before .before .before .before .before .before .before .before .before .before .before .loop-test .taken, c .before .before .before .before .before .before .before .before .before .before .before .before .before .before .before .before .before .before .before .before .before .before .before .before .before .before .before .fits)
-
-overflowed-item-requires : tie.Need-overflowed-item-requires Inv-loop μ-loop
-overflowed-item-requires c κs = search needs
+add-item c =
+    let more : tie.In-loop Inv-loop μ-loop = search in
+    let start : tie.Start Inv-loop μ-loop = search in
+    omega (arith, more .loop-test .taken, start .fits)
 
 loop-less : tie.Need-loop-less Inv-loop μ-loop
-loop-less c = omega (arith, c .before .before .before .before .before .before .before .before .before .before .before .before .before .before .before .before .before .before .before .before .loop-test .taken)
+loop-less c = let more : tie.In-loop Inv-loop μ-loop = search in omega (arith, more .loop-test .taken)
 
 loop-again : tie.Need-loop-again Inv-loop μ-loop
 loop-again c =
-    rw (c .overflowed-item .ensures)
-    (draining-goes-on _ _ _ _ _ _ _ _ _ (c .before .before .before .before .before .before .before .before .before .before .before .before .before .before .before .before .before .before .before .before .before .loop .inv) (c .before .before .before .before .before .before .before .before .before .before .before .before .before .before .before .before .before .before .before .before .loop-test .taken) _ _ _ (c .before .before .before .before .before .before .before .before .before .before .before .before .before .drain-item .ensures)
-    (record { prev = c .before .before .before .before .before .before .before .before .before .before .before .before .before .drain-item .kept .0; next = c .before .before .before .before .before .before .before .before .before .before .before .before .before .drain-item .kept .1 .0; generation = c .before .before .before .before .before .before .before .before .before .before .before .before .before .drain-item .kept .1 .1 .0; payload = c .before .before .before .before .before .before .before .before .before .before .before .before .before .drain-item .kept .1 .1 .1 .0; header = c .before .before .before .before .before .before .before .before .before .before .before .before .before .drain-item .kept .1 .1 .1 .1 .0 }))
-
-same-length : tie.Need-same-length Inv-loop μ-loop
-same-length c = c .before .loop .inv .long .prev
-
-same-length-2 : tie.Need-same-length-2 Inv-loop μ-loop
-same-length-2 c = c .before .loop .inv .long .next
-
-same-length-3 : tie.Need-same-length-3 Inv-loop μ-loop
-same-length-3 c = c .before .loop .inv .long .generation
-
-same-length-4 : tie.Need-same-length-4 Inv-loop μ-loop
-same-length-4 c = c .before .loop .inv .long .payload
-
-same-length-5 : tie.Need-same-length-5 Inv-loop μ-loop
-same-length-5 c = c .before .loop .inv .long .header
-
-same-length-6 : tie.Need-same-length-6 Inv-loop μ-loop
-same-length-6 c = c .before .loop .inv .size
+    let done : tie.After-drain-item Inv-loop μ-loop = search in
+    let more : tie.In-loop Inv-loop μ-loop = search in
+    let at : tie.At-loop Inv-loop μ-loop = search in
+    rw (c .overflowed-item .ensures) (draining-goes-on (at .loop .inv) (more .loop-test .taken) (done .drain-item .ensures) search)
 
 returns : tie.Need-returns Inv-loop μ-loop
-returns c = draining-ends _ _ _ _ _ _ _ _ _ (c .before .loop .inv) (c .loop-test .left)
+returns c = let at : tie.At-loop Inv-loop μ-loop = search in draining-ends (at .loop .inv) (c .loop-test .left)
 
 pub drain-items-spec : {M : Type 1} → statement M
 drain-items-spec =
@@ -77,17 +53,17 @@ drain-items-spec =
     Inv-loop
     μ-loop
     loop-holds
-    cast-drain-item
-    mul-drain-item
+    (λ c. omega arith)
+    (λ c. omega arith)
     drain-item-requires
     add-item
-    overflowed-item-requires
+    (λ c κs. search needs)
     loop-less
     loop-again
-    same-length
-    same-length-2
-    same-length-3
-    same-length-4
-    same-length-5
-    same-length-6
+    (λ c. search)
+    (λ c. search)
+    (λ c. search)
+    (λ c. search)
+    (λ c. search)
+    (λ c. search)
     returns)

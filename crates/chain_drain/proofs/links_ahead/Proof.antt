@@ -17,23 +17,33 @@ abbrev μ-loop : tie.MeasureT-loop
 loop-holds : tie.Need-loop-holds Inv-loop μ-loop
 loop-holds c = counting-starts _ _
 
-advance-requires : tie.Need-advance-requires Inv-loop μ-loop
-advance-requires c κs = search needs
-
 returns : tie.Need-returns Inv-loop μ-loop
-returns c = counting-ends _ _ _ _ (c .before .before .before .loop .inv) _ (c .before .before .advance .ensures) (c .if1 .taken)
+returns c =
+    let step : tie.After-advance Inv-loop μ-loop = search in
+    let at : tie.At-loop Inv-loop μ-loop = search in
+    counting-ends (at .loop .inv) (step .advance .ensures) (c .if1 .taken)
 
 add-links : tie.Need-add-links Inv-loop μ-loop
 add-links c =
-    let small = counting-small _ _ _ _ (c .before .before .before .loop .inv) _ (c .before .before .advance .ensures) (c .if1 .left) in omega (arith, c .before .before .before .before .before .before .before .before .before .good)
+    let step : tie.After-advance Inv-loop μ-loop = search in
+    let at : tie.At-loop Inv-loop μ-loop = search in
+    let start : tie.Start Inv-loop μ-loop = search in
+    omega (arith, counting-small (at .loop .inv) (step .advance .ensures) (c .if1 .left), start .good)
 
 loop-less : tie.Need-loop-less Inv-loop μ-loop
-loop-less c = ahead-less _ _ _ (c .before .before .before .advance .ensures) (c .before .if1 .left)
+loop-less c =
+    let on : tie.Else1 Inv-loop μ-loop = search in
+    let step : tie.After-advance Inv-loop μ-loop = search in
+    ahead-less _ _ _ (step .advance .ensures) (on .if1 .left)
 
 loop-again : tie.Need-loop-again Inv-loop μ-loop
-loop-again c = counting-goes-on _ _ _ _ (c .before .before .before .before .loop .inv) _ (c .before .before .before .advance .ensures) (c .before .if1 .left)
+loop-again c =
+    let on : tie.Else1 Inv-loop μ-loop = search in
+    let step : tie.After-advance Inv-loop μ-loop = search in
+    let at : tie.At-loop Inv-loop μ-loop = search in
+    counting-goes-on (at .loop .inv) (step .advance .ensures) (on .if1 .left)
 
 pub links-ahead-spec : {M : Type 1} → statement M
 links-ahead-spec =
     tie.close
-    (tie.spec Inv-loop μ-loop loop-holds advance-requires returns add-links loop-less loop-again)
+    (tie.spec Inv-loop μ-loop loop-holds (λ c κs. search needs) returns add-links loop-less loop-again)

@@ -20,42 +20,62 @@ abbrev μ-loop : tie.MeasureT-loop
 loop-holds : tie.Need-loop-holds Inv-loop μ-loop
 loop-holds c = listing-starts _ _ _
 
-advance-requires : tie.Need-advance-requires Inv-loop μ-loop
-advance-requires c κs = search needs
-
 same-length : tie.Need-same-length Inv-loop μ-loop
-same-length c = c .before .before .before .loop .inv .size
+same-length c = let at : tie.At-loop Inv-loop μ-loop = search in at .loop .inv .size
 
 returns : tie.Need-returns Inv-loop μ-loop
-returns c = listing-ends _ _ _ _ _ _ (c .before .before .before .loop .inv) _ (c .before .before .advance .ensures) (c .if1 .taken)
+returns c =
+    let step : tie.After-advance Inv-loop μ-loop = search in
+    let at : tie.At-loop Inv-loop μ-loop = search in
+    listing-ends (at .loop .inv) (step .advance .ensures) (c .if1 .taken)
 
 -- where a slot was answered, there is room for it
-small : (c : tie.Else1 Inv-loop μ-loop) → c .before .before .before .loop .items + 1 ≤ c .before .before .before .before .before .before .before .before .before .before .args .walk .«max_advances»
-small c = listing-small _ _ _ _ _ _ (c .before .before .before .loop .inv) _ (c .before .before .advance .ensures) (c .if1 .left)
+module _ (c : tie.Else1 Inv-loop μ-loop) where
+  at : tie.At-loop Inv-loop μ-loop
+  at = search
 
-room : (c : tie.Else1 Inv-loop μ-loop) → 5 * c .before .before .before .loop .items < length (c .before .before .before .loop .report)
-room c = listing-room _ _ _ _ _ _ (c .before .before .before .loop .inv) _ (c .before .before .advance .ensures) (c .if1 .left) (c .before .before .before .before .before .before .before .before .before .before .pre .1)
+  start : tie.Start Inv-loop μ-loop
+  start = search
 
-cast-report : tie.Need-cast-report Inv-loop μ-loop
-cast-report c = omega (arith, small c, c .before .before .before .before .before .before .before .before .before .before .good)
-
-mul-report : tie.Need-mul-report Inv-loop μ-loop
-mul-report c = omega (arith, small c, c .before .before .before .before .before .before .before .before .before .before .good)
-
-mul-report-2 : tie.Need-mul-report-2 Inv-loop μ-loop
-mul-report-2 c = omega (arith, small c, c .before .before .before .before .before .before .before .before .before .before .good)
+  small : at .loop .items + 1 ≤ start .args .walk .«max_advances»
+  unfolding at start
+  small = let step : tie.After-advance Inv-loop μ-loop = search in listing-small (at .loop .inv) (step .advance .ensures) (c .if1 .left)
 
 slice-write-report : tie.Need-slice-write-report Inv-loop μ-loop
-slice-write-report c = room c
+unfolding at start
+slice-write-report c =
+    let step : tie.After-advance Inv-loop μ-loop = search in
+    listing-room (at c .loop .inv) (step .advance .ensures) (c .if1 .left) (start c .pre .1)
+
+-- the item's number and the place of its word are small
+cast-report : tie.Need-cast-report Inv-loop μ-loop
+unfolding at start
+cast-report c = omega (arith, small c, start c .good)
+
+mul-report : tie.Need-mul-report Inv-loop μ-loop
+unfolding at start
+mul-report c = omega (arith, small c, start c .good)
+
+mul-report-2 : tie.Need-mul-report-2 Inv-loop μ-loop
+unfolding at start
+mul-report-2 c = omega (arith, small c, start c .good)
 
 add-items : tie.Need-add-items Inv-loop μ-loop
-add-items c = omega (arith, small c, c .before .before .before .before .before .before .before .before .before .before .good)
+unfolding at start
+add-items c = omega (arith, small c, start c .good)
 
 loop-less : tie.Need-loop-less Inv-loop μ-loop
-loop-less c = ahead-less _ _ _ (c .before .before .before .advance .ensures) (c .before .if1 .left)
+loop-less c =
+    let on : tie.Else1 Inv-loop μ-loop = search in
+    let step : tie.After-advance Inv-loop μ-loop = search in
+    ahead-less _ _ _ (step .advance .ensures) (on .if1 .left)
 
 loop-again : tie.Need-loop-again Inv-loop μ-loop
-loop-again c = listing-goes-on _ _ _ _ _ _ (c .before .before .before .before .loop .inv) _ (c .before .before .before .advance .ensures) (c .before .if1 .left) (c .before .before .before .before .before .before .before .before .before .before .before .pre .1)
+unfolding at start
+loop-again c =
+    let on : tie.Else1 Inv-loop μ-loop = search in
+    let step : tie.After-advance Inv-loop μ-loop = search in
+    listing-goes-on (at on .loop .inv) (step .advance .ensures) (on .if1 .left) (start on .pre .1)
 
 pub list-slots-spec : {M : Type 1} → statement M
 list-slots-spec =
@@ -64,7 +84,7 @@ list-slots-spec =
     Inv-loop
     μ-loop
     loop-holds
-    advance-requires
+    (λ c κs. search needs)
     same-length
     returns
     cast-report

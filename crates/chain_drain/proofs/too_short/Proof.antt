@@ -5,20 +5,11 @@ use Rattle.chain_drain.proofs.Ahead.{ahead-fits, fifth-less}
 use Rattle.chain_drain.proofs.too_short.Statement.{statement}
 use Rattle.chain_drain.proofs.too_short.Tie as tie
 
-cast-if1 : tie.Need-cast-if1
-cast-if1 c = search needs
-
 returns : tie.Need-returns
 returns c = ahead-fits _ _ _ (c .if1 .taken)
 
-links-ahead-requires : tie.Need-links-ahead-requires
-links-ahead-requires c κs = search needs
-
-cast-result : tie.Need-cast-result
-cast-result c = search needs
-
 returns-2 : tie.Need-returns-2
-returns-2 c = fifth-less (c .before .before .before .before .before .before .before .before .args .room) _ _ (c .links-ahead .ensures)
+returns-2 c = let start : tie.Start = search in fifth-less (start .args .room) _ _ (c .links-ahead .ensures)
 
 pub too-short-spec : {M : Type 1} → statement M
-too-short-spec = tie.close (tie.spec cast-if1 returns links-ahead-requires cast-result returns-2)
+too-short-spec = tie.close (tie.spec (λ c. search needs) returns (λ c κs. search needs) (λ c. search needs) returns-2)
