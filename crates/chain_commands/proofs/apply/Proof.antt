@@ -1,9 +1,9 @@
--- `chain_run::apply` meets its contract. A command on narrowed pointers is the command, and its code says which edit it is. Assumes nothing.
+-- `chain_commands::apply` meets its contract. A command on narrowed pointers is the command, and its code says which edit it is. Assumes nothing.
 use native.Mathlib.Omega.{arith}
 use borrow.Author.Needs.{needs}
-use Rattle.chain_run.proofs.Step.{connects, breaks, exchanges, removes, no-code}
-use Rattle.chain_run.proofs.apply.Statement.{statement}
-use Rattle.chain_run.proofs.apply.Tie as tie
+use Rattle.chain_commands.proofs.Step.{connects, breaks, exchanges, removes, no-code}
+use Rattle.chain_commands.proofs.apply.Statement.{statement}
+use Rattle.chain_commands.proofs.apply.Tie as tie
 
 -- the places before the second pointer was narrowed
 abbrev begun : tie.After-narrow2 → tie.Start
