@@ -16,7 +16,8 @@ use Rattle.definitions.specs.Reply.{reply}
 use Rattle.definitions.specs.Run.{Command, commandAt, commandWords, applied, answersOf, run}
 use Rattle.kept.proofs.AsLong.{AsLong, as-long-itself, as-long-too}
 use Rattle.kept.proofs.Runs.{run-goes-on, answers-go-on, an-answer-each, applied-keeps}
-use Rattle.chain_run.specs.Commands.{Applied, AllApplied}
+use Rattle.chain_commands.specs.Commands.{Applied}
+use Rattle.chain_run.specs.Ran.{AllApplied}
 
 -- the first i commands of the words ws
 abbrev pub firstCommands : List ℕ → ℕ → List Command

@@ -1,112 +1,15 @@
-// A run of edits on an arena that passed the check: 'Command: code, two slots each followed by its generation'.
+// A run of edits on an arena that passed the check.
 ghost use mathlib.Core.Path.{_≡_};
-ghost use Prim.Native.Nat.{_+_, _*_, _/_, _≤_};
+ghost use Prim.Native.Nat.{_/_, _≤_};
 ghost use lib.ListN.{length};
 ghost use Rattle.definitions.specs.Arena.{capacityLimit, largestGeneration};
 ghost use Rattle.definitions.specs.Lent.{lent, atEntry, atExit};
 ghost use Rattle.definitions.specs.Check.{WellFormed};
-ghost use Rattle.definitions.specs.Run.{commandWords, commandAt, run};
-ghost use Rattle.chain_traits.specs.Read.{pointerOf};
-ghost use Rattle.chain_run.specs.Commands.{widePointer, narrowed, commandOf, Applied, AllApplied, ranNumber, ranReply};
-use chain_edits::break_side;
-use chain_edits::connect;
-use chain_edits::exchange_next;
-use chain_edits::remove;
-use ptr::Gen;
-use ptr::Ptr;
-use ptr::Slot;
-
-// The number of words of a command.
-pub const COMMAND_WORDS: usize = 5;
-
-// A pointer as a command has it: any word may stand for its slot.
-pub struct WidePtr {
-    pub slot: u32,
-    pub generation: Gen,
-}
-
-impl WidePtr {
-    // The pointer in 16 bits; 'A slot over 65,535 is stale', as slot 0 is.
-    pub fn narrow(self) -> Ptr
-        ensures { λ r. ⌜ pointerOf r ≡ narrowed (widePointer self) ⌝ }
-    {
-        let slot = self.slot;
-        let generation = self.generation;
-        if 65535 < slot {
-            return Ptr {
-                inx: Slot(0),
-                generation: generation,
-            };
-        }
-        Ptr {
-            inx: Slot(slot as u16),
-            generation: generation,
-        }
-    }
-}
-
-// A command: codes 1 connect, 2 break prev, 3 break next, 4 exchange, 5 remove.
-pub struct Command {
-    pub code: u32,
-    pub first: WidePtr,
-    pub second: WidePtr,
-}
-
-// Command i, from 0, of the words.
-pub fn command_at(commands: &[u32], i: usize) -> Command
-    requires { ⌜ commandWords * i + commandWords ≤ length (now commands) ⌝ }
-    ensures { λ r. ⌜ commandOf r ≡ commandAt (now (commands .entry)) i ⌝ }
-{
-    let w = COMMAND_WORDS * i;
-    Command {
-        code: commands[w],
-        first: WidePtr {
-            slot: commands[w + 1],
-            generation: Gen(commands[w + 2]),
-        },
-        second: WidePtr {
-            slot: commands[w + 3],
-            generation: Gen(commands[w + 4]),
-        },
-    }
-}
-
-// One command. Answers 0, 100, 12, 13, or 16 for another code.
-pub fn apply(
-    prev: &mut [u16],
-    next: &mut [u16],
-    generation: &mut [u32],
-    payload: &mut [u32],
-    header: &mut [u32],
-    c: Command,
-) -> u32
-    requires { ⌜ WellFormed capacityLimit (lent prev next generation payload header) ⌝ }
-    ensures { λ r. ⌜ Applied largestGeneration
-        (atEntry prev next generation payload header) (commandOf c) r
-        (atExit prev next generation payload header) ⌝ }
-{
-    let first = c.first;
-    let second = c.second;
-    let code = c.code;
-    let p = first.narrow();
-    let q = second.narrow();
-    // By size, since a jump through a table of all codes costs more than the edits do.
-    if code < 2 {
-        match code {
-            1 => connect(prev, next, &*generation, &*payload, &*header, p, q).number(),
-            _ => 16,
-        }
-    } else if code < 4 {
-        let after = code == 3;
-        break_side(prev, next, &*generation, &*payload, &*header, p, after).number()
-    } else {
-        match code {
-            4 => exchange_next(prev, next, &*generation, &*payload, &*header, p, q).number(),
-            5 => remove(prev, next, generation, payload, header, p).number(),
-            _ => 16,
-        }
-    }
-}
+ghost use Rattle.definitions.specs.Run.{commandWords, run};
+ghost use Rattle.chain_run.specs.Ran.{AllApplied, ranNumber, ranReply};
+use chain_commands::COMMAND_WORDS;
+use chain_commands::apply;
+use chain_commands::command_at;
 
 // Applies the commands one after the other, and writes an answer for each.
 pub fn apply_all(

@@ -14,29 +14,12 @@ returns-2 : tie.Need-returns-2
 unfolding run
 returns-2 c = search tests depth 20
 
-apply-all-requires : tie.Need-apply-all-requires
-apply-all-requires c κs = search needs
-
-same-length : tie.Need-same-length
-same-length c = search needs
-
-same-length-2 : tie.Need-same-length-2
-same-length-2 c = search needs
-
-same-length-3 : tie.Need-same-length-3
-same-length-3 c = search needs
-
-same-length-4 : tie.Need-same-length-4
-same-length-4 c = search needs
-
-same-length-5 : tie.Need-same-length-5
-same-length-5 c = search needs
-
-same-length-6 : tie.Need-same-length-6
-same-length-6 c = search needs
-
 returns-3 : tie.Need-returns-3
-returns-3 c = ran _ _ _ _ _ _ (c .before .before .before .before .before .before .before .before .before .before .before .before .before .before .before .before .before .before .before .before .if1 .left) (c .before .before .before .before .before .before .before .before .before .before .before .before .before .before .before .before .before .before .before .if2 .left) (c .before .before .before .before .before .before .before .before .before .before .before .before .apply-all .ensures)
+returns-3 c =
+    let done : tie.After-apply-all = search in
+    let room : tie.Else2 = search in
+    let whole : tie.Else1 = search in
+    ran _ _ _ _ _ _ (whole .if1 .left) (room .if2 .left) (done .apply-all .ensures)
 
 pub run-spec : {M : Type 1} → statement M
 run-spec =
@@ -44,11 +27,11 @@ run-spec =
     (tie.spec
     returns
     returns-2
-    apply-all-requires
-    same-length
-    same-length-2
-    same-length-3
-    same-length-4
-    same-length-5
-    same-length-6
+    (λ c κs. search needs)
+    (λ c. search needs)
+    (λ c. search needs)
+    (λ c. search needs)
+    (λ c. search needs)
+    (λ c. search needs)
+    (λ c. search needs)
     returns-3)

@@ -20,7 +20,7 @@ use Rattle.links.specs.Links.{removalReply}
 use Rattle.links.specs.declared.InvalidationResult.{InvalidationResult}
 use Rattle.links.specs.declared.InvalidationResult.the-variants.{Success, GenerationOverflow, InvalidPtr}
 use Rattle.chain_edits.specs.Edits.{breakSide}
-use Rattle.chain_run.specs.Commands.{narrowed, Applied}
+use Rattle.chain_commands.specs.Commands.{narrowed, Applied}
 
 -- ---- a slot over the limit is stale, and so is slot 0
 

@@ -1,9 +1,9 @@
--- `chain_run::WidePtr::narrow` meets its contract. One test, whether the slot fits 16 bits. Assumes nothing.
+-- `chain_commands::WidePtr::narrow` meets its contract. One test, whether the slot fits 16 bits. Assumes nothing.
 use mathlib.Core.Path.{refl}
 use borrow.Author.Needs.{needs}
 use borrow.Author.Tests.{lt-ltb, le-ltb}
-use Rattle.chain_run.proofs.WidePtr.narrow.Statement.{statement}
-use Rattle.chain_run.proofs.WidePtr.narrow.Tie as tie
+use Rattle.chain_commands.proofs.WidePtr.narrow.Statement.{statement}
+use Rattle.chain_commands.proofs.WidePtr.narrow.Tie as tie
 
 returns : tie.Need-returns
 returns c = rw (lt-ltb _ _ (c .if1 .taken)) refl
