@@ -11,7 +11,7 @@ ghost use Rattle.chain_commands.specs.Commands.{widePointer, narrowed, c
 use chain_edits::break_side;
 use chain_edits::connect;
 use chain_edits::exchange_next;
-use chain_edits::remove;
+use chain_removal::remove;
 use ptr::Gen;
 use ptr::Ptr;
 use ptr::Slot;

@@ -25,7 +25,7 @@ use Rattle.drains.proofs.Report.{length-items, length-drained}
 use Rattle.walks.proofs.Walks.{walk-gives-chain}
 use Rattle.chain_drain.specs.declared.Drained.the-variants.{Done, Stale, Short}
 use Rattle.chain_drain.specs.Drained.{drainReply}
-use Rattle.chain_drain.specs.Items.{slotsAhead, Listed, ItemsDrained}
+use Rattle.chain_drain_items.specs.Items.{slotsAhead, Listed, ItemsDrained}
 
 -- a report that is not too short has room
 pub has-room : (room words : ℕ) {r : Bool} → r ≡ ltb room words → r ≡ false → words ≤ room

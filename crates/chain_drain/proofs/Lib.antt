@@ -1,5 +1,1 @@
-pub mod Ahead
-pub mod Listing
-pub mod Items
-pub mod Draining
 pub mod Answers

@@ -1,4 +1,3 @@
 pub mod Around
-pub mod Removal
 pub mod Replies
 pub mod Sides

@@ -1,26 +1,20 @@
-// Connect, break, exchange and remove (chain/impl_chain_arena_trait.rs) on an arena that passed the check.
+// Connect, break and exchange (chain/impl_chain_arena_trait.rs) on an arena that passed the check.
 ghost use mathlib.Core.Path.{_≡_};
 ghost use mathlib.Core.Bool.{cond};
 ghost use mathlib.Core.List.{[]};
 ghost use Prim.Native.Nat.{_≤_, _<_};
 ghost use lib.ListN.{length};
 ghost use Rattle.definitions.specs.Columns.{put};
-ghost use Rattle.definitions.specs.Arena.{capacityLimit, largestGeneration};
+ghost use Rattle.definitions.specs.Arena.{capacityLimit};
 ghost use Rattle.definitions.specs.Lent.{lent, atEntry, atExit};
 ghost use Rattle.definitions.specs.Check.{WellFormed};
 ghost use Rattle.definitions.specs.Edit.{connect, breakPrev, breakNext, exchangeNext};
-ghost use Rattle.definitions.specs.Remove.{remove};
-ghost use Rattle.links.specs.Links.{removalReply};
 ghost use Rattle.chain_traits.specs.Read.{pointerOf};
 ghost use Rattle.chain_edits.specs.Edits.{editedNumber, editedReply, breakSide};
-use base_removal::take_out;
-use chain_traits::GotLinkNoGen;
-use chain_traits::get_link_no_gen;
 use chain_traits::stale;
 use columns::set_at;
 use columns::slot_at;
 use header::STACK_LENGTH;
-use links::InvalidationResult;
 use ptr::Ptr;
 use ptr::Slot;
 
@@ -193,29 +187,4 @@ pub fn exchange_next(
     set_two(next, p0.inx, d1, p1.inx, d0);
     set_two(prev, d0, p1.inx, d1, p0.inx);
     Edited::Done
-}
-
-// Removes the link at p: joins its neighbours and vacates its slot. Answers the link as it was.
-pub fn remove(
-    prev: &mut [u16],
-    next: &mut [u16],
-    generation: &mut [u32],
-    payload: &mut [u32],
-    header: &mut [u32],
-    p: Ptr,
-) -> InvalidationResult
-    requires { ⌜ WellFormed capacityLimit (lent prev next generation payload header) ⌝ }
-    ensures { λ r. ⌜ removalReply r (atExit prev next generation payload header) []
-        ≡ remove largestGeneration (atEntry prev next generation payload header) (pointerOf p) [] ⌝ }
-{
-    match get_link_no_gen(&*prev, &*next, &*generation, &*payload, &*header, p) {
-        GotLinkNoGen::Stale => InvalidationResult::InvalidPtr,
-        GotLinkNoGen::Found(link) => {
-            if take_out(prev, next, generation, payload, header, p.inx) {
-                InvalidationResult::GenerationOverflow(link)
-            } else {
-                InvalidationResult::Success(link)
-            }
-        }
-    }
 }

@@ -24,7 +24,7 @@ use Rattle.demand3.proofs.Equivalence.{well-formed-room}
 use Rattle.demand3.proofs.Loops.{between-end, end-links, end-only}
 use Rattle.base_freelist.specs.Popped.{popped}
 use Rattle.base_freelist.proofs.Settled.{settled-over}
-use Rattle.compress_with.specs.Moves.{Renewed}
+use Rattle.compress_moves.specs.Moves.{Renewed}
 use Rattle.canonical_exchange.specs.Lent.{Lent, lent, front}
 use Rattle.canonical_layout.specs.Held.{Held}
 use Rattle.canonical_layout.specs.Steps.{Layable, Stacked, LaidIn}

@@ -1,7 +1,2 @@
-pub mod Place
-pub mod Numbers
-pub mod Renewing
-pub mod Names
-pub mod Moving
 pub mod Relocated
 pub mod Passed

@@ -15,7 +15,7 @@ use Rattle.definitions.specs.Reply.{reply}
 use Rattle.definitions.specs.Compress.{compressGeneration, compressNumber, compressedHeader, relocate, movesOf, compressWith}
 use Rattle.definitions.proofs.Slots.{allocated-within}
 use Rattle.well_formed.proofs.WellFormed.{well-formed-if-passes}
-use Rattle.compress_with.specs.Moves.{Renewed, Compressible}
+use Rattle.compress_moves.specs.Moves.{Renewed, Compressible}
 
 -- a neighbour is none, or a slot of the stack
 neighbour-within : (a : Arena) (back : List ℕ) (x s : ℕ) → Neighbour a back x s → s ≤ stackLength a

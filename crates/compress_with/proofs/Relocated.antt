@@ -16,10 +16,10 @@ use Rattle.definitions.proofs.Count.{In, only-links}
 use Rattle.definitions.proofs.Written.{written-rest, written-reads}
 use Rattle.base_freelist.specs.Popped.{popped}
 use Rattle.base_freelist.proofs.Settled.{settled-over}
-use Rattle.compress_with.specs.Moves.{numbered, newName, carried, Movable, Compressible}
-use Rattle.compress_with.proofs.Numbers.{length-moves}
-use Rattle.compress_with.proofs.Moving.{map-agree}
-use Rattle.compress_with.proofs.Names.{numbered-at, numbered-links, numbered-link, numbered-small, numbered-full, length-numbered, numbers-long}
+use Rattle.compress_moves.specs.Moves.{numbered, newName, carried, Movable, Compressible}
+use Rattle.compress_moves.proofs.Numbers.{length-moves}
+use Rattle.compress_moves.proofs.Moving.{map-agree}
+use Rattle.compress_moves.proofs.Names.{numbered-at, numbered-links, numbered-link, numbered-small, numbered-full, length-numbered, numbers-long}
 
 -- popping leaves the words at the front, and the old words past the stack
 written-popped : (ws old : List ℕ) (k n : ℕ) → length ws ≡ k → k ≤ n → popped k n (written ws old) ≡ settled n ws old

@@ -12,7 +12,7 @@ ghost use Rattle.answers.specs.Answered.{Answered};
 use answers::Answer;
 use answers::LinkNoGenResult;
 use answers::checked;
-use chain_edits::remove;
+use chain_removal::remove;
 use links::InvalidationResult;
 use ptr::Gen;
 use ptr::Ptr;

@@ -1,4 +1,4 @@
--- `level_two_remove::chain_arena_remove` meets its contract. An arena that the check refuses is as it was; one that passes is well formed, and `chain_edits::remove` says the rest. Assumes nothing.
+-- `level_two_remove::chain_arena_remove` meets its contract. An arena that the check refuses is as it was; one that passes is well formed, and `chain_removal::remove` says the rest. Assumes nothing.
 use mathlib.Core.Path.{refl, _∙_}
 use borrow.Author.Needs.{needs}
 use Rattle.definitions.specs.Calls.{accepted}

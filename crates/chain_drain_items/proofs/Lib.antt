@@ -1,0 +1,4 @@
+pub mod Ahead
+pub mod Listing
+pub mod Items
+pub mod Draining

@@ -1,0 +1,24 @@
+-- `compress_moves::new_slot` meets its contract: slot s is at place s - 1, and slot 0 reads 0. Assumes nothing.
+use mathlib.Core.Path.{sym}
+use native.Mathlib.Omega.{arith}
+use borrow.Author.Needs.{needs}
+use Rattle.definitions.proofs.Columns.{at-zero, at-place}
+use Rattle.compress_moves.proofs.new_slot.Statement.{statement}
+use Rattle.compress_moves.proofs.new_slot.Tie as tie
+
+cast-result : tie.Need-cast-result
+cast-result c =
+    let some : tie.Else1 = search in
+    let start : tie.Start = search in
+    omega (arith, at-place (start .args .numbers .now) (start .args .s) (some .if1 .left))
+
+pub new-slot-spec : {M : Type 1} → statement M
+new-slot-spec =
+    tie.close
+    (tie.spec
+    (λ c. rw (c .if1 .taken) (sym (at-zero _)))
+    (λ c. search needs)
+    (λ c. search needs)
+    (λ c. search needs)
+    cast-result
+    (λ c. let some : tie.Else1 = search in at-place _ _ (some .if1 .left)))
