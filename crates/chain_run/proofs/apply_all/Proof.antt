@@ -14,9 +14,6 @@ Inv-loop prev₀ next₀ generation₀ payload₀ header₀ commands answers₀ 
 abbrev μ-loop : tie.MeasureT-loop
 μ-loop prev₀ next₀ generation₀ payload₀ header₀ commands answers₀ n i₀ prev next generation payload header answers i = n - i
 
-command-at-requires : tie.Need-command-at-requires Inv-loop μ-loop
-command-at-requires c κs = omega arith
-
 apply-requires : tie.Need-apply-requires Inv-loop μ-loop
 apply-requires c κs =
     let turn : tie.At-loop Inv-loop μ-loop = search in
@@ -27,9 +24,6 @@ mul-answers : tie.Need-mul-answers Inv-loop μ-loop
 mul-answers c =
     let start : tie.Start Inv-loop μ-loop = search in
     omega (arith, start .good)
-
-slice-write-answers : tie.Need-slice-write-answers Inv-loop μ-loop
-slice-write-answers c = omega arith
 
 add-i : tie.Need-add-i Inv-loop μ-loop
 add-i c =
@@ -59,10 +53,10 @@ apply-all-spec =
     Inv-loop
     μ-loop
     (λ c. starts _ _ _ _)
-    command-at-requires
+    (λ c κs. omega arith)
     apply-requires
     mul-answers
-    slice-write-answers
+    (λ c. omega arith)
     add-i
     (λ c. omega arith)
     loop-again

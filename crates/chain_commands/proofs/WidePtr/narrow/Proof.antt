@@ -8,11 +8,8 @@ use Rattle.chain_commands.proofs.WidePtr.narrow.Tie as tie
 returns : tie.Need-returns
 returns c = rw (lt-ltb _ _ (c .if1 .taken)) refl
 
-cast-t6 : tie.Need-cast-t6
-cast-t6 c = search needs
-
 returns-2 : tie.Need-returns-2
 returns-2 c = rw (le-ltb _ _ (c .if1 .left)) refl
 
 pub narrow-spec : {M : Type 1} → statement M
-narrow-spec = tie.close (tie.spec returns cast-t6 returns-2)
+narrow-spec = tie.close (tie.spec returns (λ c. search needs) returns-2)
