@@ -8,7 +8,7 @@ use Rattle.definitions.specs.Columns.{at, written}
 use Rattle.definitions.specs.Arena.{Arena}
 use Rattle.definitions.specs.Walk.{Walk, walked}
 use Rattle.definitions.specs.Remove.{removedAll, drainItems, overflowItem}
-use Rattle.base_removal.specs.Removal.{TakenOut}
+use Rattle.base_slots.specs.Removal.{TakenOut}
 use Rattle.drains.specs.Report.{itemSlots}
 
 -- the slots that the rest of a walk answers

@@ -8,7 +8,7 @@ ghost use lib.ListN.{length, getD};
 ghost use Rattle.definitions.specs.Arena.{arena, capacityLimit, largestGeneration};
 ghost use Rattle.definitions.specs.Lent.{lent, atEntry, atExit};
 ghost use Rattle.definitions.proofs.Shaped.{Shaped};
-ghost use Rattle.base_removal.specs.Removal.{Stands, Removable};
+ghost use Rattle.base_slots.specs.Removal.{Stands, Removable};
 ghost use Rattle.chain_iterators.specs.Walk.{walkOf};
 ghost use Rattle.drains.specs.Drainable.{Drainable};
 ghost use Rattle.drains.specs.Report.{itemSlots};

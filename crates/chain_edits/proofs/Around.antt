@@ -10,8 +10,8 @@ use Rattle.definitions.specs.Arena.{Arena, capacityLimit}
 use Rattle.definitions.specs.Check.{WellFormed}
 use Rattle.definitions.specs.Columns.{at}
 use Rattle.definitions.specs.Read.{Pointer, stale}
-use Rattle.base_removal.proofs.Removable.{removable}
-use Rattle.base_removal.specs.Removal.{Joinable}
+use Rattle.base_slots.proofs.Removable.{removable}
+use Rattle.base_slots.specs.Removal.{Joinable}
 use Rattle.chain_traits.proofs.Fresh.{fresh-link}
 
 -- its slot stands in both link columns, and so does each neighbour that it has

@@ -13,7 +13,7 @@ use Rattle.definitions.specs.Columns.{at, put}
 use Rattle.definitions.specs.Edit.{breakPrev, breakNext}
 use Rattle.definitions.specs.Read.{Pointer, stale}
 use Rattle.definitions.specs.Reply.{reply, refusal}
-use Rattle.base_removal.specs.Removal.{Joinable}
+use Rattle.base_slots.specs.Removal.{Joinable}
 use Rattle.chain_edits.specs.Edits.{breakSide}
 
 -- the neighbour of p on that side

@@ -10,7 +10,7 @@ use Rattle.definitions.specs.Edit.{doneNumber}
 use Rattle.definitions.specs.Read.{Pointer, stale, getLinkNoGen}
 use Rattle.definitions.specs.Remove.{remove}
 use Rattle.definitions.specs.Reply.{Reply, reply}
-use Rattle.base_removal.specs.Removal.{TakenOut}
+use Rattle.base_slots.specs.Removal.{TakenOut}
 use Rattle.chain_traits.proofs.Found.{FoundAt}
 use Rattle.chain_traits.specs.Read.{linkNoGenReply}
 use Rattle.chain_traits.specs.declared.GotLinkNoGen.the-variants.{Stale}

@@ -2,7 +2,7 @@
 -- the definition says. Assumes nothing.
 use mathlib.Core.Path.{_∙_}
 use borrow.Author.Needs.{needs}
-use Rattle.base_removal.proofs.Removed.{poppable, freeable, last-out, other-out}
+use Rattle.base_slots.proofs.Removed.{poppable, freeable, last-out, other-out}
 use Rattle.base_removal.proofs.take_out.Statement.{statement}
 use Rattle.base_removal.proofs.take_out.Tie as tie
 

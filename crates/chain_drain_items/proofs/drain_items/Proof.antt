@@ -3,7 +3,7 @@
 use Prim.Native.Nat.{_-_}
 use native.Mathlib.Omega.{arith}
 use borrow.Author.Needs.{needs}
-use Rattle.base_removal.proofs.Removable.{removable}
+use Rattle.base_slots.proofs.Removable.{removable}
 use Rattle.definitions.specs.Arena.{arena, capacityLimit, largestGeneration}
 use Rattle.chain_drain_items.proofs.Draining.{Draining, draining-starts, draining-ends, next-link, next-small, next-room, draining-goes-on}
 use Rattle.chain_drain_items.proofs.drain_items.Statement.{statement}

@@ -3,7 +3,7 @@
 use mathlib.Core.Bool.{false}
 use mathlib.Core.Path.{_≡_}
 use borrow.Author.Needs.{needs}
-use Rattle.base_removal.specs.Removal.{Joinable}
+use Rattle.base_slots.specs.Removal.{Joinable}
 use Rattle.definitions.specs.Arena.{Arena}
 use Rattle.definitions.specs.Lent.{lent}
 use Rattle.definitions.specs.Read.{stale}

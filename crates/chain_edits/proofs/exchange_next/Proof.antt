@@ -2,7 +2,7 @@
 use mathlib.Core.Bool.{false}
 use mathlib.Core.Path.{_≡_, sym, _∙_}
 use borrow.Author.Needs.{needs}
-use Rattle.base_removal.specs.Removal.{Joinable}
+use Rattle.base_slots.specs.Removal.{Joinable}
 use Rattle.definitions.specs.Arena.{Arena}
 use Rattle.definitions.specs.Edit.{exchangeNext}
 use Rattle.definitions.specs.Lent.{lent}

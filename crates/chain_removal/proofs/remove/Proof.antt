@@ -2,7 +2,7 @@
 use mathlib.Core.Path.{refl}
 use borrow.Author.Needs.{needs}
 use Rattle.definitions.specs.Lent.{lent}
-use Rattle.base_removal.proofs.Removable.{removable}
+use Rattle.base_slots.proofs.Removable.{removable}
 use Rattle.chain_removal.proofs.Removal.{remove-none, remove-found}
 use Rattle.chain_traits.proofs.Found.{FoundAt, found}
 use Rattle.chain_traits.proofs.Fresh.{fresh-link}

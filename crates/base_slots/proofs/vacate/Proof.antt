@@ -1,8 +1,8 @@
--- `base_removal::vacate` meets its contract. Four stores at the place of slot s, one in each column. Assumes nothing.
+-- `base_slots::vacate` meets its contract. Four stores at the place of slot s, one in each column. Assumes nothing.
 use borrow.Author.Needs.{needs}
-use Rattle.base_removal.proofs.Removed.{vacates}
-use Rattle.base_removal.proofs.vacate.Statement.{statement}
-use Rattle.base_removal.proofs.vacate.Tie as tie
+use Rattle.base_slots.proofs.Removed.{vacates}
+use Rattle.base_slots.proofs.vacate.Statement.{statement}
+use Rattle.base_slots.proofs.vacate.Tie as tie
 
 returns : tie.Need-returns
 returns c =

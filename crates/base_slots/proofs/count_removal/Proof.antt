@@ -1,9 +1,9 @@
--- `base_removal::count_removal` meets its contract. The link count falls by one, and `generational_inc` says the rest. Assumes nothing.
+-- `base_slots::count_removal` meets its contract. The link count falls by one, and `generational_inc` says the rest. Assumes nothing.
 use mathlib.Core.Path.{refl}
 use borrow.Author.Needs.{needs}
-use Rattle.base_removal.specs.Removal.{fewer}
-use Rattle.base_removal.proofs.count_removal.Statement.{statement}
-use Rattle.base_removal.proofs.count_removal.Tie as tie
+use Rattle.base_slots.specs.Removal.{fewer}
+use Rattle.base_slots.proofs.count_removal.Statement.{statement}
+use Rattle.base_slots.proofs.count_removal.Tie as tie
 
 returns : tie.Need-returns
 unfolding fewer

@@ -1,8 +1,8 @@
--- `base_removal::join` meets its contract. Both words are read before either neighbour is written, so each gets the other's old word. Assumes nothing.
+-- `base_slots::join` meets its contract. Both words are read before either neighbour is written, so each gets the other's old word. Assumes nothing.
 use borrow.Author.Needs.{needs}
-use Rattle.base_removal.proofs.Removed.{place-within, joins}
-use Rattle.base_removal.proofs.join.Statement.{statement}
-use Rattle.base_removal.proofs.join.Tie as tie
+use Rattle.base_slots.proofs.Removed.{place-within, joins}
+use Rattle.base_slots.proofs.join.Statement.{statement}
+use Rattle.base_slots.proofs.join.Tie as tie
 
 put-at-requires : tie.Need-put-at-requires
 put-at-requires c κs =

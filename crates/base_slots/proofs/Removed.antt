@@ -12,7 +12,7 @@ use Rattle.definitions.proofs.Columns.{at-place, put-place}
 use Rattle.definitions.specs.Arena.{Arena, arena, capacityLimit, headerWords, stackLength, withStackLength, withRoot, withCurrent}
 use Rattle.definitions.specs.Columns.{at, put}
 use Rattle.definitions.specs.Remove.{joined, vacated, removed}
-use Rattle.base_removal.specs.Removal.{Stands, Removable, fewer, Counted, TakenOut}
+use Rattle.base_slots.specs.Removal.{Stands, Removable, fewer, Counted, TakenOut}
 
 -- the code's place s - 1 is slot s
 pub place-within : (xs : List ℕ) (s m : ℕ) → 0 < s → at xs s ≤ m → getD xs (s - 1) 0 ≤ m

@@ -1,7 +1,7 @@
--- `base_removal::free` meets its contract. The slot is vacated with what `freelist_pointer` answers of the old root, and is the root. Assumes nothing.
+-- `base_slots::free` meets its contract. The slot is vacated with what `freelist_pointer` answers of the old root, and is the root. Assumes nothing.
 use borrow.Author.Needs.{needs}
-use Rattle.base_removal.proofs.free.Statement.{statement}
-use Rattle.base_removal.proofs.free.Tie as tie
+use Rattle.base_slots.proofs.free.Statement.{statement}
+use Rattle.base_slots.proofs.free.Tie as tie
 
 returns : tie.Need-returns
 returns c =

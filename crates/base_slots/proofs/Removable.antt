@@ -11,7 +11,7 @@ use Rattle.definitions.specs.Arena.{Arena, capacityLimit, stackLength, root, li
 use Rattle.definitions.specs.Check.{WellFormed, Freelist, Neighbour}
 use Rattle.definitions.proofs.Slots.{allocated-some, allocated-within}
 use Rattle.definitions.proofs.Count.{In, in-here, not-in-nil, count-links}
-use Rattle.base_removal.specs.Removal.{Removable}
+use Rattle.base_slots.specs.Removal.{Removable}
 
 -- a neighbour is none, or is in the stack
 pub neighbour-within : (a : Arena) (back : List ℕ) (x s : ℕ) → Neighbour a back x s → s ≤ stackLength a

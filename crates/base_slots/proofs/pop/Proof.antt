@@ -1,7 +1,7 @@
--- `base_removal::pop` meets its contract. The slot is vacated with no freelist pointer, and the stack ends before it. Assumes nothing.
+-- `base_slots::pop` meets its contract. The slot is vacated with no freelist pointer, and the stack ends before it. Assumes nothing.
 use borrow.Author.Needs.{needs}
-use Rattle.base_removal.proofs.pop.Statement.{statement}
-use Rattle.base_removal.proofs.pop.Tie as tie
+use Rattle.base_slots.proofs.pop.Statement.{statement}
+use Rattle.base_slots.proofs.pop.Tie as tie
 
 returns : tie.Need-returns
 returns c =
