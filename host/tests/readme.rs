@@ -1,7 +1,10 @@
-//! The links of the README and of docs/PROMISES.md lead to files that are there.
+//! The links of the README and of docs/PROMISES.md lead to files that are there; the README names every call, and PROMISES every must-fail edit.
 
+use std::collections::BTreeSet;
 use std::fs;
 use std::path::Path;
+
+use chain_arena::levels::LEVELS;
 
 /// The relative links of a Markdown text.
 fn links(text: &str) -> impl Iterator<Item = &str> {
@@ -20,6 +23,23 @@ fn every_link_leads_to_a_file() {
         for link in links(&text) {
             assert!(document.with_file_name(link).exists(), "{name} links to {link}");
         }
+    }
+}
+
+#[test]
+fn every_call_is_in_the_table() {
+    let root = Path::new(env!("CARGO_MANIFEST_DIR")).join("..");
+    let text = fs::read_to_string(root.join("README.md")).unwrap();
+    for level in LEVELS {
+        let feature = format!("| `{}` |", level.name.replace('_', "-"));
+        let row = text.lines().find(|line| line.contains(&feature)).expect("a row for each level");
+        let named: Vec<&str> =
+            row.rsplit(" |").nth(1).unwrap_or_default().split('`').skip(1).step_by(2).collect();
+        let exports: Vec<&str> =
+            level.exports.iter().filter_map(|name| name.strip_prefix("chain_arena_")).collect();
+        let (named, exports): (BTreeSet<_>, BTreeSet<_>) =
+            (named.into_iter().collect(), exports.into_iter().collect());
+        assert_eq!(named, exports, "{}", level.name);
     }
 }
 

@@ -1,6 +1,7 @@
 //! Random calls with random arguments, on any arena.
 
 use crate::random::Random;
+use crate::words::CALLS_IN_ALL;
 use crate::{Arena, Call, Ptr, Walk, model};
 
 /// The header's word, 0 if the header has none.
@@ -75,7 +76,7 @@ fn some_run(r: &mut Random, a: &Arena) -> Call {
 }
 
 /// How often each call is made, by its code; removals are rare, since nothing is ever added.
-const OFTEN: [usize; 18] = [1, 4, 3, 3, 3, 10, 12, 3, 3, 8, 3, 1, 1, 1, 1, 1, 1, 1];
+const OFTEN: [usize; CALLS_IN_ALL] = [1, 4, 3, 3, 3, 10, 12, 3, 3, 8, 3, 1, 1, 1, 1, 1, 1, 1];
 
 /// A random call.
 pub fn some_call(r: &mut Random, a: &Arena, kept: &[Walk]) -> Call {

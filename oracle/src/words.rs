@@ -4,7 +4,7 @@ use crate::{Call, Ptr, Walk};
 
 /// The calls in the order of their codes, from 1: name, names of the arguments, names of the result's further fields.
 #[rustfmt::skip]
-const CALLS: [(&str, &[&str], &[&str]); 18] = [
+const CALLS: &[(&str, &[&str], &[&str])] = &[
     ("check", &[], &[]),
     ("get_link", POINTER, &["prev", "prev_generation", "next", "next_generation", "payload"]),
     ("get_link_no_gen", POINTER, LINK),
@@ -31,6 +31,8 @@ const STATE: &[&str] = &["start", "position", "direction", "left"];
 const COMMAND: &[&str] = &["code", "slot", "generation", "slot", "generation"];
 const LINK: &[&str] = &["prev", "next", "payload"];
 
+/// How many calls there are: their codes are 1 to this.
+pub const CALLS_IN_ALL: usize = CALLS.len();
 /// The code of a run.
 pub const RUN: usize = 16;
 /// The code of a canonical compression.

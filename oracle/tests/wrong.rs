@@ -1,4 +1,4 @@
-//! The comparison must be able to fail: one wrong word is seen, and for each of the 18 calls programs that are wrong in a
+//! The comparison must be able to fail: one wrong word is seen, and for each call programs that are wrong in a
 //! likely way are found out by its sections, and shown on a small case.
 
 use std::collections::BTreeSet;
@@ -8,6 +8,7 @@ use oracle::header::{GENERATION, LINKS, ROOT, STACK};
 use oracle::random::{self, Random};
 use oracle::runner::{Failure, Run};
 use oracle::sections::{Form, SECTIONS};
+use oracle::words::CALLS_IN_ALL;
 use oracle::{Arena, Call, Ptr, Reply, Walk, calls, cases, demand3, model, shrink};
 
 /// Every outcome that differs from the given one in one word.
@@ -408,7 +409,7 @@ fn a_wrong_program_is_found_out() {
         assert!(found_out(sections_of(call), 2_500, *program).is_some(), "{call}: {what}: passes for right");
     }
     let calls: BTreeSet<&str> = WRONG.iter().map(|(call, _, _)| *call).collect();
-    assert_eq!(calls.len(), 18, "there is a wrong program for each call");
+    assert_eq!(calls.len(), CALLS_IN_ALL, "there is a wrong program for each call");
     for call in calls {
         let right = found_out(sections_of(call), 100, |_, _, _| {});
         assert!(right.is_none(), "a right program is taken for wrong: {right:?}");

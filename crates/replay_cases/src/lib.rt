@@ -1,4 +1,4 @@
-// What the programs replay_read, replay_edits, replay_removal and replay_compress share. Each replays stored answers of the crate triple_arena 0.15.1
+// What the programs replay_read, replay_edits, replay_removal, replay_run and replay_compress share. Each replays stored answers of the crate triple_arena 0.15.1
 // through some of the exported calls, so that every run of the gate compares with the crate, with no Rust at hand.
 //
 // A program's file stdin holds its cases, one a line of decimal numbers: the call's code; the number of slots; the shape, 1 to 5 if that column or the

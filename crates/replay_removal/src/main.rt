@@ -1,9 +1,7 @@
-// Replays stored answers of the calls that remove links: one link, a whole chain, and runs of commands, which may remove. The crate replay_cases says what
-// the files stdin and stdout hold and where they come from.
+// Replays stored answers of the calls that remove links: one link, and a whole chain. The crate replay_cases says what the files stdin and stdout hold and
+// where they come from.
 use level_two_drain::chain_arena_drain;
 use level_two_remove::chain_arena_remove;
-use level_two_run::chain_arena_run;
-use replay_cases::ARGS;
 use replay_cases::CODE;
 use replay_cases::GENERATION;
 use replay_cases::HEADER;
@@ -81,42 +79,11 @@ fn drain(case: &[u32; 192]) {
     write_arena(prev, p, next, q, generation, g, payload, w, header, h);
 }
 
-// Runs the argument words as commands, with the lent slice for their answers.
-fn run(case: &[u32; 192]) {
-    let p = lent_of(case, PREV);
-    let q = lent_of(case, NEXT);
-    let g = lent_of(case, GENERATION);
-    let w = lent_of(case, PAYLOAD);
-    let h = lent_of(case, HEADER);
-    let n = lent_of(case, ARGS);
-    let m = lent_of(case, LENT);
-    let mut prev = slots_of(case, PREV, p);
-    let mut next = slots_of(case, NEXT, q);
-    let mut generation = words_of(case, GENERATION, g);
-    let mut payload = words_of(case, PAYLOAD, w);
-    let mut header = words_of(case, HEADER, h);
-    let commands = words_of(case, ARGS, n);
-    let mut answers = words_of(case, LENT, m);
-    let r = chain_arena_run(
-        &mut prev[..p],
-        &mut next[..q],
-        &mut generation[..g],
-        &mut payload[..w],
-        &mut header[..h],
-        &commands[..n],
-        &mut answers[..m],
-    );
-    write_answer(r);
-    write_words(answers, m);
-    write_arena(prev, p, next, q, generation, g, payload, w, header, h);
-}
-
 // Replays a case.
 fn replay(case: &[u32; 192]) {
     match case[CODE] {
         11 => remove(case),
         12 => drain(case),
-        16 => run(case),
         _ => write_answer(no_call()),
     }
 }

@@ -19,13 +19,15 @@ use oracle::calls::some_call;
 use oracle::compare::{Outcome, crate_number, crate_outcome, crate_text_found, model_outcome};
 use oracle::header::GENERATION;
 use oracle::random::{self, Random};
+use oracle::words::CALLS_IN_ALL;
 use oracle::{Arena, Call, Reply, cases};
 
 /// The programs, each with the codes of its calls.
-const PROGRAMS: [(&str, &[usize]); 4] = [
+const PROGRAMS: [(&str, &[usize]); 5] = [
     ("replay_read", &[1, 2, 3, 4, 5, 6]),
     ("replay_edits", &[7, 8, 9, 10, 13, 14, 15]),
-    ("replay_removal", &[11, 12, 16]),
+    ("replay_removal", &[11, 12]),
+    ("replay_run", &[16]),
     ("replay_compress", &[17, 18]),
 ];
 
@@ -73,7 +75,7 @@ fn main() {
             write(program, name, &lines.collect::<String>());
         }
     }
-    for code in 1..=18 {
+    for code in 1..=CALLS_IN_ALL {
         let of_code = kept.iter().filter(|((of, _), _)| *of == code);
         let numbers: Vec<String> =
             of_code.map(|((_, number), cases)| format!("{number}: {}", cases.len())).collect();
@@ -326,8 +328,8 @@ mod tests {
         let stored = stored();
         let kinds: BTreeSet<(u32, u32)> =
             stored.iter().map(|(case, answer)| (first(case), first(answer))).collect();
-        let all =
-            (1..=18).flat_map(|code| numbers(code).into_iter().map(move |number| (code as u32, number)));
+        let all = (1..=CALLS_IN_ALL)
+            .flat_map(|code| numbers(code).into_iter().map(move |number| (code as u32, number)));
         assert_eq!(kinds, all.collect());
         assert!(stored.len() >= 2_000);
     }
