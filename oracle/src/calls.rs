@@ -95,7 +95,7 @@ pub fn each_call(r: &mut Random, a: &Arena) -> impl Iterator<Item = Call> {
 }
 
 /// The call of a code with random arguments.
-fn call_of(code: usize, r: &mut Random, a: &Arena, kept: &[Walk]) -> Call {
+pub fn call_of(code: usize, r: &mut Random, a: &Arena, kept: &[Walk]) -> Call {
     let (p, q) = (some_ptr(r, a), some_ptr(r, a));
     let noise = r.word();
     match code {

@@ -15,7 +15,7 @@ use std::collections::BTreeMap;
 use std::fs;
 use std::path::{Path, PathBuf};
 
-use oracle::calls::some_call;
+use oracle::calls::call_of;
 use oracle::compare::{Outcome, crate_number, crate_outcome, crate_text_found, model_outcome};
 use oracle::header::GENERATION;
 use oracle::random::{self, Random};
@@ -35,8 +35,8 @@ const PROGRAMS: [(&str, &[usize]); 5] = [
 const SLOTS: usize = 12;
 const WORDS: usize = 64;
 
-/// How many cases are tried.
-const SEEDS: u64 = 400_000;
+/// How many cases of each call are tried. Each call has seeds of its own, so that a new call leaves the cases of the others as they are.
+const SEEDS: u64 = 25_000;
 
 /// How many cases of a call with a number are kept at least for each mark, and how many if the check refuses the arena.
 const KEPT: usize = 14;
@@ -51,15 +51,16 @@ fn main() {
     let mut marked: BTreeMap<(usize, u32, Mark), usize> = BTreeMap::new();
     let mut kept: BTreeMap<(usize, u32), Vec<[String; 2]>> = BTreeMap::new();
     let mut by_model = 0;
-    for seed in 0..SEEDS {
-        let mut r = Random::new(seed);
+    let tried = (1..=CALLS_IN_ALL).flat_map(|code| (0..SEEDS).map(move |seed| (code, seed)));
+    for (code, seed) in tried {
+        let mut r = Random::new(((code as u64) << 32) + seed);
         let before = some_arena(&mut r, &small);
-        let call = some_call(&mut r, &before, &[]);
+        let call = call_of(code, &mut r, &before, &[]);
         let Some(case) = case_line(&before, &call) else { continue };
         let answered = crate_answer(&before, &call);
         let by_crate = answered.is_some();
         let after = answered.unwrap_or_else(|| model_outcome(&before, &call));
-        let (code, number) = (call.code(), after.reply.number);
+        let number = after.reply.number;
         let keys = marks(&before, &call, number, by_crate).map(|mark| (code, number, mark));
         let wanted = if (1..=11).contains(&number) { KEPT_BROKEN } else { KEPT };
         if keys.clone().any(|key| marked.get(&key).is_none_or(|&cases| cases < wanted)) {
