@@ -3,6 +3,9 @@ use Prim.Native.Nat.{ℕ}
 use mathlib.Core.Path.{_≡_}
 use mathlib.Core.List.{List}
 use lib.ListN.{length, take, drop}
+use denote.Ref.{now}
+use denote.Triple.Both.{Both}
+use Rattle.definitions.specs.Lent.{Column}
 
 pub record Lent : Type 0 where
   pub prev : List ℕ
@@ -12,6 +15,16 @@ pub record Lent : Type 0 where
 
 abbrev pub lent : List ℕ → List ℕ → List ℕ → List ℕ → Lent
 lent ps ns vs ws = record { prev = ps; next = ns; payload = vs; whereFrom = ws }
+
+-- for contracts: in a `requires` as they are, in an `ensures` as they were at entry and as they are at exit
+abbrev pub columns : Column → Column → Column → Column → Lent
+columns ps ns vs ws = lent (now ps) (now ns) (now vs) (now ws)
+
+abbrev pub columnsAtEntry : {A B C D : Type 0} → Both Column A → Both Column B → Both Column C → Both Column D → Lent
+columnsAtEntry ps ns vs ws = columns (ps .entry) (ns .entry) (vs .entry) (ws .entry)
+
+abbrev pub columnsAtExit : {A B C D : Type 0} → Both A Column → Both B Column → Both C Column → Both D Column → Lent
+columnsAtExit ps ns vs ws = columns (ps .exit) (ns .exit) (vs .exit) (ws .exit)
 
 -- columns of the same lengths
 pub record AsLong (c old : Lent) : Type 0 where

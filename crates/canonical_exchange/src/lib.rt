@@ -4,7 +4,7 @@ ghost use Prim.Native.Nat.{_≤_};
 ghost use lib.ListN.{length};
 ghost use Rattle.definitions.specs.Columns.{put};
 ghost use Rattle.definitions.specs.Compress.{exchangeWords};
-ghost use Rattle.canonical_exchange.specs.Lent.{lent};
+ghost use Rattle.canonical_exchange.specs.Lent.{columns, columnsAtEntry, columnsAtExit};
 ghost use Rattle.canonical_exchange.specs.Exchange.{Inside, NamedIn, LinksInReach, InReach, renamedWords, Exchanged};
 use columns::put_at;
 use columns::slot_at;
@@ -90,9 +90,9 @@ pub fn exchange(
     i: Slot,
     t: Slot,
 )
-    requires { ⌜ InReach (lent (now prev) (now next) (now payload) (now «where_from»)) (i .0) (t .0) ⌝ }
-    ensures { λ _. ⌜ Exchanged (lent (now (prev .entry)) (now (next .entry)) (now (payload .entry)) (now («where_from» .entry)))
-        (lent (now (prev .exit)) (now (next .exit)) (now (payload .exit)) (now («where_from» .exit))) (i .0) (t .0) ⌝ }
+    requires { ⌜ InReach (columns prev next payload «where_from») (i .0) (t .0) ⌝ }
+    ensures { λ _. ⌜ Exchanged (columnsAtEntry prev next payload «where_from»)
+        (columnsAtExit prev next payload «where_from») (i .0) (t .0) ⌝ }
 {
     exchange_links(prev, next, &*where_from, i, t);
     trade_slots(where_from, i, t);

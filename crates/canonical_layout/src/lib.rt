@@ -4,7 +4,7 @@ ghost use Prim.Native.Nat.{ℕ, _+_, _≤_, _<_};
 ghost use lib.ListN.{length};
 ghost use Rattle.definitions.specs.Arena.{Arena, capacityLimit, stackLength};
 ghost use Rattle.definitions.specs.Compress.{Laying, lowestFrom, startOf, layChain, laidOut};
-ghost use Rattle.canonical_exchange.specs.Lent.{lent};
+ghost use Rattle.canonical_exchange.specs.Lent.{columns, columnsAtEntry, columnsAtExit};
 ghost use Rattle.canonical_layout.specs.Held.{Occupied, Rooted};
 ghost use Rattle.canonical_layout.specs.Steps.{InChain, LinkLaid, ChainLaid, Ready, AllLaid, Larger};
 use canonical_exchange::exchange;
@@ -20,9 +20,9 @@ pub fn lay_link(
     laid: usize,
     t: Slot,
 ) -> Slot
-    requires { ⌜ ((a : Arena) × (l : Laying) × (first : ℕ) × InChain a l first (t .0) (lent (now prev) (now next) (now payload) (now «where_from»)) laid) ⌝ }
-    ensures { λ r. ⌜ ((a : Arena) (l : Laying) (first : ℕ) → InChain a l first (t .0) (lent (now (prev .entry)) (now (next .entry)) (now (payload .entry)) (now («where_from» .entry))) laid
-        → LinkLaid l (t .0) (lent (now (prev .exit)) (now (next .exit)) (now (payload .exit)) (now («where_from» .exit))) (r .0)) ⌝ }
+    requires { ⌜ ((a : Arena) × (l : Laying) × (first : ℕ) × InChain a l first (t .0) (columns prev next payload «where_from») laid) ⌝ }
+    ensures { λ r. ⌜ ((a : Arena) (l : Laying) (first : ℕ) → InChain a l first (t .0) (columnsAtEntry prev next payload «where_from») laid
+        → LinkLaid l (t .0) (columnsAtExit prev next payload «where_from») (r .0)) ⌝ }
 {
     let i = Slot((laid + 1) as u16);
     if i.0 == t.0 {
@@ -51,10 +51,10 @@ pub fn lay_chain(
     start: Slot,
 ) -> usize
     requires { ⌜ first .0 ≡ laid + 1 ⌝ }
-    requires { ⌜ ((a : Arena) × (l : Laying) × InChain a l (l .i) (start .0) (lent (now prev) (now next) (now payload) (now «where_from»)) laid) ⌝ }
-    ensures { λ r. ⌜ ((a : Arena) (l : Laying) → InChain a l (l .i) (start .0) (lent (now (prev .entry)) (now (next .entry)) (now (payload .entry)) (now («where_from» .entry))) laid
+    requires { ⌜ ((a : Arena) × (l : Laying) × InChain a l (l .i) (start .0) (columns prev next payload «where_from») laid) ⌝ }
+    ensures { λ r. ⌜ ((a : Arena) (l : Laying) → InChain a l (l .i) (start .0) (columnsAtEntry prev next payload «where_from») laid
         → ChainLaid a l (layChain (stackLength (l .slots)) (l .i) (start .0) l) laid
-        (lent (now (prev .exit)) (now (next .exit)) (now (payload .exit)) (now («where_from» .exit))) r) ⌝ }
+        (columnsAtExit prev next payload «where_from») r) ⌝ }
 {
     let mut count = laid;
     let mut t = start;
@@ -126,9 +126,9 @@ pub fn larger(x: usize, y: usize) -> usize
 
 // Lays out chain after chain: the lowest link that is not in its place, its chain's start, and from there along next.
 pub fn lay_chains(prev: &mut [u16], next: &mut [u16], payload: &mut [u32], where_from: &mut [u16])
-    requires { ⌜ ((a : Arena) × Ready a (lent (now prev) (now next) (now payload) (now «where_from»))) ⌝ }
-    ensures { λ _. ⌜ ((a : Arena) → Ready a (lent (now (prev .entry)) (now (next .entry)) (now (payload .entry)) (now («where_from» .entry)))
-        → AllLaid a (laidOut a) (lent (now (prev .exit)) (now (next .exit)) (now (payload .exit)) (now («where_from» .exit)))) ⌝ }
+    requires { ⌜ ((a : Arena) × Ready a (columns prev next payload «where_from»)) ⌝ }
+    ensures { λ _. ⌜ ((a : Arena) → Ready a (columnsAtEntry prev next payload «where_from»)
+        → AllLaid a (laidOut a) (columnsAtExit prev next payload «where_from»)) ⌝ }
 {
     let mut laid: usize = 0;
     let mut found = lowest_link(&*where_from, laid);

@@ -7,12 +7,12 @@ ghost use lib.Dec.{eqb};
 ghost use lib.ListN.{length};
 ghost use Rattle.definitions.specs.Columns.{at};
 ghost use Rattle.definitions.specs.Arena.{capacityLimit, largestGeneration};
-ghost use Rattle.definitions.specs.Lent.{lent as lentArena, atEntry, atExit};
+ghost use Rattle.definitions.specs.Lent.{lent, atEntry, atExit};
 ghost use Rattle.definitions.specs.Check.{verdict};
 ghost use Rattle.definitions.specs.Reply.{reply};
 ghost use Rattle.definitions.specs.Compress.{compressCanonical};
 ghost use Rattle.compress_canonical.specs.Answers.{compressedNumber};
-ghost use Rattle.canonical_exchange.specs.Lent.{lent};
+ghost use Rattle.canonical_exchange.specs.Lent.{columnsAtExit};
 ghost use Rattle.canonical_layout.specs.Held.{Marked};
 ghost use Rattle.canonical_layout.specs.Steps.{Stacked, LaidIn};
 ghost use Rattle.compress_canonical.specs.Shrunk.{Shrinkable, shrunk};
@@ -76,9 +76,9 @@ fn lay_out(
     header: &[u32],
     where_from: &mut [u16],
 )
-    requires { ⌜ Stacked (lentArena prev next generation payload header) (now «where_from») ⌝ }
+    requires { ⌜ Stacked (lent prev next generation payload header) (now «where_from») ⌝ }
     ensures { λ _. ⌜ LaidIn (atEntry prev next generation payload header) (now («where_from» .entry))
-        (lent (now (prev .exit)) (now (next .exit)) (now (payload .exit)) (now («where_from» .exit))) ⌝ }
+        (columnsAtExit prev next payload «where_from») ⌝ }
 {
     let n = header[STACK_LENGTH] as usize;
     mark_links(&mut where_from[..n], &generation[..n]);
@@ -98,7 +98,7 @@ fn shrink(
     payload: &mut [u32],
     header: &mut [u32],
 )
-    requires { ⌜ Shrinkable (lentArena prev next generation payload header) ⌝ }
+    requires { ⌜ Shrinkable (lent prev next generation payload header) ⌝ }
     ensures { λ _. ⌜ atExit prev next generation payload header
         ≡ shrunk (atEntry prev next generation payload header) ⌝ }
 {
@@ -121,7 +121,7 @@ pub fn compress_canonical(
     reset: bool,
     where_from: &mut [u16],
 ) -> Compressed
-    requires { ⌜ verdict capacityLimit (lentArena prev next generation payload header) ≡ 0 ⌝ }
+    requires { ⌜ verdict capacityLimit (lent prev next generation payload header) ≡ 0 ⌝ }
     ensures { λ r. ⌜ reply (compressedNumber r) [] (atExit prev next generation payload header) (now («where_from» .exit))
         ≡ compressCanonical largestGeneration reset (atEntry prev next generation payload header) (now («where_from» .entry)) ⌝ }
 {
