@@ -1,8 +1,8 @@
 -- `chain_edits::connect` meets its contract. The four tests are those of the definition, in its order; a pointer that is not stale is in both columns. Assumes nothing.
+use mathlib.Core.Path.{sym, _∙_}
 use borrow.Author.Needs.{needs}
 use Rattle.definitions.specs.Edit.{connect}
 use Rattle.chain_edits.proofs.Around.{around}
-use mathlib.Core.Path.{sym, _∙_}
 use Rattle.chain_edits.proofs.Replies.{written, is-some}
 use Rattle.chain_traits.proofs.Fresh.{is-fresh, reads}
 use Rattle.chain_edits.proofs.connect.Statement.{statement}
