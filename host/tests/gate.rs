@@ -21,6 +21,7 @@ impl Stage {
         let folder = Path::new(env!("CARGO_TARGET_TMPDIR")).join(format!("gate_{name}"));
         let _ = fs::remove_dir_all(&folder);
         fs::create_dir_all(folder.join("repository/.ci")).unwrap();
+        fs::create_dir_all(folder.join("repository/build")).unwrap();
         fs::create_dir_all(folder.join("tools")).unwrap();
         fs::copy(Path::new(env!("CARGO_MANIFEST_DIR")).join("../.ci/run"), folder.join("repository/.ci/run"))
             .unwrap();
@@ -28,7 +29,7 @@ impl Stage {
         // a step writes its words down, and whether the folder of ready archives is still named
         let step = |words: &str| {
             format!(
-                "#!/usr/bin/env bash\necho \"{words}${{CHAIN_ARENA_ARCHIVES:+ with ready archives}}\" >> {}\n{}\n[[ \"{words}\" != {fails} ]]\n",
+                "#!/usr/bin/env bash\necho \"{words}${{CHAIN_ARENA_ARCHIVES:+ with $CHAIN_ARENA_ARCHIVES}}\" >> {}\n{}\n[[ \"{words}\" != {fails} ]]\n",
                 stage.folder.join("steps").display(),
                 if words.starts_with("rt") {
                     format!("[[ \"$1\" != ci ]] || printf 'all proved\\n{ci}\\n'")
@@ -80,39 +81,51 @@ impl Stage {
     }
 }
 
-const STEPS: [&str; 5] = [
-    "rt fmt --check",
-    "rt ci",
-    "archives build/archives",
-    "cargo test --workspace --offline --quiet",
-    "cargo run --offline --quiet -p oracle --bin compare",
+/// The steps in their order, each with whether it links the archives that the gate made.
+const STEPS: [(&str, bool); 6] = [
+    ("rt fmt --check", false),
+    ("rt ci", false),
+    ("archives build/archives", false),
+    ("cargo test --workspace --offline --quiet", true),
+    ("cargo run --offline --quiet -p oracle --bin compare", true),
+    ("cargo run --offline --quiet", false),
 ];
+
+/// What the first steps, so many, write down.
+fn first(stage: &Stage, count: usize) -> Vec<String> {
+    let made = fs::canonicalize(&stage.folder).unwrap().join("repository/build/archives");
+    let with = |linked: bool| if linked { format!(" with {}", made.display()) } else { String::new() };
+    STEPS[..count].iter().map(|(words, linked)| format!("{words}{}", with(*linked))).collect()
+}
 
 #[test]
 fn every_step_is_made_and_the_verdict_comes_last() {
-    let (passed, last, steps) = Stage::new("whole", "nothing", VERDICT).run();
+    let stage = Stage::new("whole", "nothing", VERDICT);
+    let (passed, last, steps) = stage.run();
     assert!(passed);
     assert_eq!(last, VERDICT);
-    assert_eq!(steps, STEPS);
+    assert_eq!(steps, first(&stage, STEPS.len()));
 }
 
 #[test]
 fn a_step_that_fails_ends_the_gate_with_another_line() {
-    for (k, words) in STEPS.iter().enumerate() {
-        let (passed, last, steps) = Stage::new(&format!("step_{k}"), &format!("\"{words}\""), VERDICT).run();
+    for (k, (words, _)) in STEPS.iter().enumerate() {
+        let stage = Stage::new(&format!("step_{k}"), &format!("\"{words}\""), VERDICT);
+        let (passed, last, steps) = stage.run();
         assert!(!passed, "{words}");
         assert!(last.starts_with(".ci/run: "), "{words}: {last}");
-        assert_eq!(steps, STEPS[..=k], "{words}");
+        assert_eq!(steps, first(&stage, k + 1), "{words}");
     }
 }
 
 #[test]
 fn a_verdict_that_does_not_say_0_failed_is_not_passed_on() {
     for (k, verdict) in ["3 passed, 1 failed", "3 passed, 0 failed?", "3 passed", ""].iter().enumerate() {
-        let (passed, last, steps) = Stage::new(&format!("verdict_{k}"), "nothing", verdict).run();
+        let stage = Stage::new(&format!("verdict_{k}"), "nothing", verdict);
+        let (passed, last, steps) = stage.run();
         assert!(!passed, "{verdict}");
         assert!(last.starts_with(".ci/run: "), "{verdict}: {last}");
-        assert_eq!(steps, STEPS[..2], "{verdict}");
+        assert_eq!(steps, first(&stage, 2), "{verdict}");
     }
 }
 

@@ -1,6 +1,8 @@
 //! include/chain_arena.h declares the calls as the archives have them: every_call.c makes each one and prints every word that it answers and leaves. Any two
 //! arguments of one type, exchanged, are seen in what it prints, and so are any two fields of a result. The README's example for C is tried too.
 
+#![cfg(any(feature = "level-one", feature = "level-two", feature = "level-three"))]
+
 use std::path::{Path, PathBuf};
 use std::process::{Command, Output};
 use std::sync::LazyLock;

@@ -43,28 +43,54 @@ fn every_call_is_in_the_table() {
     }
 }
 
-#[test]
-fn every_edit_is_named_beside_its_function() {
-    let root = Path::new(env!("CARGO_MANIFEST_DIR")).join("..");
-    let text = fs::read_to_string(root.join("docs/PROMISES.md")).unwrap();
-    let mut named = 0;
-    for folder in fs::read_dir(root.join("crates")).unwrap().map(|entry| entry.unwrap().path()) {
+/// Every must-fail edit: its crate, the function that it is about, and what is wrong.
+fn edits() -> Vec<(String, String, String)> {
+    let mut found = vec![];
+    for folder in fs::read_dir(Path::new(env!("CARGO_MANIFEST_DIR")).join("../crates")).unwrap() {
+        let folder = folder.unwrap().path();
         let Ok(edits) = fs::read_dir(folder.join("must-fail")) else { continue };
         let owner = folder.file_name().unwrap().to_str().unwrap();
         for edit in edits.map(|entry| entry.unwrap().path()) {
             let label = edit.file_stem().unwrap().to_str().unwrap();
             let (function, what) = label.split_once("__").expect("FUNCTION__what_is_wrong.edit");
-            let (function, what) =
-                (format!("| `{function}` |"), format!(" {owner}: {}", what.replace('_', " ")));
-            let row = text.lines().find(|line| line.contains(&function));
-            let row = row.unwrap_or_else(|| panic!("PROMISES has no row for {function} {what}"));
-            let edits = row.rsplit(" |").nth(1).unwrap_or_default();
-            assert!(
-                edits.split(',').any(|edit| edit.ends_with(&what)),
-                "{function} does not name the edit{what}"
-            );
-            named += 1;
+            found.push((owner.to_string(), function.to_string(), what.replace('_', " ")));
         }
+    }
+    found
+}
+
+#[test]
+fn every_export_has_two_edits_one_of_them_in_its_own_crate() {
+    for (level, export) in
+        LEVELS.iter().flat_map(|level| level.exports.iter().map(move |export| (level, export)))
+    {
+        let owners: Vec<String> = edits()
+            .into_iter()
+            .filter(|(_, function, _)| function == export)
+            .map(|(owner, ..)| owner)
+            .collect();
+        assert!(owners.len() >= 2, "{export} has {} edits", owners.len());
+        let own = format!("{}_", level.name);
+        assert!(
+            owners.iter().any(|owner| owner.starts_with(&own)),
+            "no edit of {export} is in the export itself"
+        );
+    }
+}
+
+#[test]
+fn every_edit_is_named_beside_its_function() {
+    let root = Path::new(env!("CARGO_MANIFEST_DIR")).join("..");
+    let text = fs::read_to_string(root.join("docs/PROMISES.md")).unwrap();
+    for (owner, function, what) in edits() {
+        let (function, what) = (format!("| `{function}` |"), format!(" {owner}: {what}"));
+        let row = text.lines().find(|line| line.contains(&function));
+        let row = row.unwrap_or_else(|| panic!("PROMISES has no row for {function} {what}"));
+        let edits = row.rsplit(" |").nth(1).unwrap_or_default();
+        assert!(
+            edits.split(',').any(|edit| edit.ends_with(&what)),
+            "{function} does not name the edit{what}"
+        );
     }
     let mut listed = 0;
     let mut inside = false;
@@ -74,5 +100,5 @@ fn every_edit_is_named_beside_its_function() {
             listed += line.rsplit(" |").nth(1).unwrap_or_default().matches(": ").count();
         }
     }
-    assert_eq!(listed, named, "PROMISES names edits that are not there");
+    assert_eq!(listed, edits().len(), "PROMISES names edits that are not there");
 }
