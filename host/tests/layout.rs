@@ -1,6 +1,9 @@
 //! The exports in Rattle, the C header and the Rust declarations say the same of every call: the same parameters and the same fields of its result, by name
 //! and type, in the same order. The proofs do not hold these places, so a fault is planted for each export: any two parameters, and any two fields, of one
 //! type exchanged in the Rattle source are found.
+//!
+//! What each export promises follows from its signature, so that is held too: `Answered` of its own call with its own arguments, of the arena at entry and
+//! at exit, of every field and of what is lent; and nothing is asked of the caller. A weaker promise with a proof that fits it would pass the prover.
 
 use std::collections::BTreeSet;
 use std::fs;
@@ -160,6 +163,116 @@ fn pairs<'a>(text: &'a str, start: &str, end: &str) -> Vec<(&'a str, &'a str)> {
     let all = items(between(text, start, end));
     let pairs = (0..all.len()).flat_map(|j| (0..j).map(move |i| (i, j)));
     pairs.map(|(i, j)| (all[i], all[j])).filter(|(a, b)| named(a).1 == named(b).1).collect()
+}
+
+/// A name as a contract writes it.
+fn marked(name: &str) -> String {
+    if name.contains('_') { format!("«{name}»") } else { name.to_string() }
+}
+
+/// A list as a contract writes it.
+fn listed(items: Vec<String>) -> String {
+    let all: Vec<String> = items.into_iter().chain(["[]".to_string()]).collect();
+    if all.len() == 1 { "[]".to_string() } else { format!("({})", all.join(" ∷ ")) }
+}
+
+/// The contract that an export's signature asks for. A walk's step is handed the words of its state, and hands them back.
+fn promised(text: &str, call: &str) -> String {
+    let parameters: Vec<Place> =
+        items(between(text, &format!("fn {call}("), ")")).into_iter().map(named).collect();
+    let names: Vec<&str> = parameters.iter().map(|(name, _)| name.as_str()).collect();
+    let (columns, own) = (&names[..5], &parameters[5..]);
+    assert_eq!(columns, ["prev", "next", "generation", "payload", "header"], "{call}");
+    let of = result(text, call);
+    let fields: Vec<String> = items(between(text, &format!("pub struct {of} {{"), "}"))
+        .into_iter()
+        .map(named)
+        .filter(|(_, of)| of == "u32")
+        .map(|(name, _)| format!("r .{}", marked(&name)))
+        .collect();
+    let mut fields = if of == "Answer" { vec![] } else { fields };
+    let (mut arguments, mut lent, mut back) = (vec![], "[]".to_string(), "[]".to_string());
+    if call == "chain_arena_walk_step" {
+        lent = listed(own.iter().map(|(name, _)| marked(name)).collect());
+        back = listed(fields.split_off(fields.len() - own.len()));
+    } else {
+        for (name, of) in own {
+            let word = marked(name);
+            match of.as_str() {
+                "u16" => arguments
+                    .push(format!("(pointer {word} {})", marked(&name.replace("_slot", "_generation")))),
+                "u32"
+                    if name.ends_with("_generation")
+                        && names.contains(&name.replace("_generation", "_slot").as_str()) => {}
+                "u32" if name == "reset" => arguments.push("(not (eqb reset 0))".to_string()),
+                "u32" => arguments.push(word),
+                slice if slice.starts_with("&mut [") => {
+                    (lent, back) = (format!("(now ({word} .entry))"), format!("(now ({word} .exit))"));
+                }
+                _ => arguments.push(format!("(now ({word} .entry))")),
+            }
+        }
+    }
+    let words = call.strip_prefix("chain_arena_").unwrap_or(call).split('_');
+    let made: String = words.map(|word| word[..1].to_uppercase() + &word[1..]).collect();
+    let made = if arguments.is_empty() { made } else { format!("({made} {})", arguments.join(" ")) };
+    let (columns, answer) = (columns.join(" "), if of == "Answer" { "r" } else { "(r .answer)" });
+    let fields = listed(fields);
+    format!(
+        "ensures {{ λ r. ⌜ Answered {made} (atEntry {columns}) {lent} {answer} {fields} (atExit {columns}) {back} ⌝ }}"
+    )
+}
+
+/// All that stands between an export's signature and its body, on one line.
+fn stated(text: &str, call: &str) -> String {
+    let (_, behind) =
+        text.split_once(&format!("fn {call}(")).unwrap_or_else(|| panic!("{call} is not declared"));
+    let (_, contract) =
+        between(behind, ") -> ", "\n{").split_once('\n').unwrap_or_else(|| panic!("{call} promises nothing"));
+    contract.split_whitespace().collect::<Vec<_>>().join(" ")
+}
+
+#[test]
+fn every_export_promises_what_its_signature_asks_for_and_asks_nothing() {
+    let rattle = rattle();
+    for call in calls() {
+        assert_eq!(stated(&rattle, call), promised(&rattle, call), "{call}");
+    }
+    // the words of a contract mean what the library's modules say: they come from there, and none is renamed
+    let homes = [
+        "definitions.specs.Lent",
+        "definitions.specs.Read",
+        "definitions.specs.Calls",
+        "answers.specs.Answered",
+    ];
+    for level in LEVELS {
+        for line in exporting(level).lines().filter(|line| line.starts_with("ghost use ")) {
+            assert!(!line.contains(" as "), "{line}");
+            let ours = ["Answered", "atEntry", "atExit", "pointer"];
+            let names = between(line, "{", "}").split(", ").filter(|name| ours.contains(name)).count();
+            let home = homes.iter().any(|home| line.contains(&format!("Rattle.{home}.{{")));
+            assert!(names == 0 || home, "{line}");
+        }
+    }
+}
+
+#[test]
+fn a_weaker_promise_is_found_in_every_export() {
+    let rattle = rattle();
+    for call in calls() {
+        let (before, behind) = rattle.split_once(&format!("fn {call}(")).unwrap();
+        let wrong = |from: &str, to: &str| {
+            let changed = behind.replacen(from, to, 1);
+            assert_ne!(changed, behind, "{call}: {from}");
+            format!("{before}fn {call}({changed}")
+        };
+        let asks = wrong("    ensures {", "    requires { ⌜ 0 ≡ 0 ⌝ }\n    ensures {");
+        let says_nothing = wrong("⌜ Answered ", "⌜ ⊥ → Answered ");
+        let same_arena = wrong("(atExit ", "(atEntry ");
+        for text in [asks, says_nothing, same_arena] {
+            assert_ne!(stated(&text, call), promised(&text, call), "{call}");
+        }
+    }
 }
 
 #[test]

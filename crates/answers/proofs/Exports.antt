@@ -7,7 +7,7 @@ use lib.ListN.{length, replicate}
 use lib.Dec.{eqb}
 use borrow.Author.Tests.{ne-eqb, eqb-true}
 use Rattle.definitions.specs.Arena.{Arena, capacityLimit, largestGeneration, headerWords}
-use Rattle.definitions.specs.Check.{verdict, WellFormed}
+use Rattle.definitions.specs.Check.{verdict, WellFormed, Names}
 use Rattle.definitions.specs.Reply.{Reply, reply}
 use Rattle.definitions.specs.Calls.{Call, Check, accepted, replyTo, Answers}
 use Rattle.definitions.proofs.Tests.{by-test}
@@ -56,3 +56,8 @@ module _ {a : Arena} {r : Answer} (h : Verdict a r) where
             (λ t. rw (t, h .number) refl);
         names = h .names;
       }
+
+-- what an export promises, spelled out: its reply is the definition's at the port's own limits, and with 11 it names a slot at which rule 11 fails
+pub promised : (c : Call) (a : Arena) (l : List ℕ) (r : Answer) (fields : List ℕ) (left : Arena) (back : List ℕ) → Answered c a l r fields left back
+    → (reply (r .number) fields left back ≡ replyTo capacityLimit largestGeneration c a l) × Names capacityLimit a (r .broken)
+promised c a l r fields left back h = (h .same, h .names)
