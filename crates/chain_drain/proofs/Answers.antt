@@ -20,7 +20,7 @@ use Rattle.chain_iterators.specs.Walk.{walkOf, startReply}
 use Rattle.chain_iterators.specs.declared.ChainPtrAdvancer.{ChainPtrAdvancer}
 use Rattle.chain_iterators.specs.declared.Started.the-variants.{At, Stale as StaleStart}
 use Rattle.drains.specs.Drainable.{Drainable}
-use Rattle.drains.specs.Report.{itemSlots}
+use Rattle.definitions.specs.Report.{itemSlots}
 use Rattle.drains.proofs.Report.{length-items, length-drained}
 use Rattle.walks.proofs.Walks.{walk-gives-chain}
 use Rattle.chain_drain.specs.declared.Drained.the-variants.{Done, Stale, Short}

@@ -16,7 +16,7 @@ use Rattle.definitions.proofs.Slots.{allocated-within}
 use Rattle.definitions.proofs.Tests.{by-test}
 use Rattle.kept.proofs.AsLong.{AsLong, as-long-itself, as-long-too}
 use Rattle.drains.specs.Drainable.{Drainable}
-use Rattle.drains.specs.Report.{itemSlots}
+use Rattle.definitions.specs.Report.{itemSlots}
 use Rattle.drains.proofs.Drainable.{drainable-rest}
 use Rattle.drains.proofs.Report.{length-items, items-from, length-drained}
 use Rattle.chain_drain_items.specs.Items.{ItemDrained, ItemsDrained, itemWords}

@@ -7,7 +7,7 @@ use lib.ListN.{length, set, drop, length-append, length-set}
 use lib.Seq.{drop-drop, drop-set-lt}
 use Rattle.definitions.specs.Arena.{Arena}
 use Rattle.definitions.specs.Walk.{Walk, Stepped, step}
-use Rattle.drains.specs.Report.{itemSlots}
+use Rattle.definitions.specs.Report.{itemSlots}
 use Rattle.drains.proofs.Report.{length-items, items-more}
 use Rattle.chain_drain_items.specs.Items.{slotsAhead, Listed}
 use Rattle.chain_drain_items.proofs.Ahead.{ahead-none, ahead-some, ahead-short}

@@ -9,7 +9,7 @@ use Rattle.definitions.specs.Arena.{Arena}
 use Rattle.definitions.specs.Walk.{Walk, walked}
 use Rattle.definitions.specs.Remove.{removedAll, drainItems, overflowItem}
 use Rattle.base_slots.specs.Removal.{TakenOut}
-use Rattle.drains.specs.Report.{itemSlots}
+use Rattle.definitions.specs.Report.{itemSlots}
 
 -- the slots that the rest of a walk answers
 abbrev pub slotsAhead : Arena → Walk → List ℕ

@@ -11,7 +11,7 @@ ghost use Rattle.definitions.proofs.Shaped.{Shaped};
 ghost use Rattle.base_slots.specs.Removal.{Stands, Removable};
 ghost use Rattle.chain_iterators.specs.Walk.{walkOf};
 ghost use Rattle.drains.specs.Drainable.{Drainable};
-ghost use Rattle.drains.specs.Report.{itemSlots};
+ghost use Rattle.definitions.specs.Report.{itemSlots};
 ghost use Rattle.chain_drain_items.specs.Items.{slotsAhead, Listed, itemWords, overwritten, ItemDrained, ItemsDrained};
 use base_removal::take_out;
 use chain_iterators::ChainPtrAdvancer;

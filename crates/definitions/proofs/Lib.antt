@@ -14,3 +14,4 @@ pub mod Relisted
 pub mod Steps
 pub mod Numbers
 pub mod Written
+pub mod Refused

@@ -12,5 +12,10 @@ pub mod Run
 pub mod Compress
 pub mod Calls
 pub mod Demand3
+pub mod WalkOrder
+pub mod Answers
+pub mod Report
+pub mod DrainsChain
+pub mod EveryCall
 pub mod Cases
 pub mod Refusals

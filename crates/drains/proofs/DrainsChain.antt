@@ -27,10 +27,10 @@ use Rattle.chains.proofs.Links.{DoublyLinked, well-formed-linked, few-links, li
 use Rattle.chains.proofs.OneChain.{chain-run, chain-links, run-next, run-prev, one-chain, like-count}
 use Rattle.kept.proofs.Drain.{removedAll-keeps}
 use Rattle.well_formed.proofs.WellFormed.{well-formed-if-passes}
-use Rattle.walks.specs.WalkOrder.{WalkOrder}
+use Rattle.definitions.specs.WalkOrder.{WalkOrder}
 use Rattle.walks.proofs.Walks.{walk-gives-chain, count-reverse}
 use Rattle.drains.specs.Drainable.{Drainable}
-use Rattle.drains.specs.DrainsChain.{DrainsChain}
+use Rattle.definitions.specs.DrainsChain.{DrainsChain}
 use Rattle.drains.proofs.Report.{length-drained, items-drained}
 use Rattle.drains.proofs.Drainable.{drained-was, drained-gone, drained-untouched}
 use Rattle.drains.proofs.Overflow.{overflow-named, overflow-none}

@@ -7,7 +7,7 @@ use lib.ListN.{length, getD, set, drop}
 use lib.Seq.{getD-set-same, getD-set-other, getD-drop, drop-drop, drop-set-add}
 use Rattle.definitions.specs.Arena.{Arena}
 use Rattle.definitions.specs.Remove.{removed, drainItems}
-use Rattle.drains.specs.Report.{itemSlots}
+use Rattle.definitions.specs.Report.{itemSlots}
 
 pub length-items : (items : ℕ) (report : List ℕ) → length (itemSlots items report) ≡ items
 unfolding itemSlots

@@ -1,3 +1,1 @@
-pub mod Report
 pub mod Drainable
-pub mod DrainsChain

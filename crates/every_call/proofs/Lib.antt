@@ -1,3 +1,4 @@
 pub mod RefusalChangesNothing
 pub mod EveryCallKeeps
 pub mod RunIsFold
+pub mod ContractDetermines

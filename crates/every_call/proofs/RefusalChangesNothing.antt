@@ -39,7 +39,7 @@ use Rattle.definitions.specs.Calls.{
   replyTo,
 }
 use Rattle.definitions.specs.Demand3.{Accepted}
-use Rattle.every_call.specs.Statements.{Unchanged}
+use Rattle.definitions.specs.EveryCall.{Unchanged}
 
 module _ (a : Arena) (l : List ℕ) where
   refuses : (k n : ℕ) → Unchanged a l (refusal k n a l)

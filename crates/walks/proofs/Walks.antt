@@ -17,7 +17,7 @@ use Rattle.definitions.proofs.LinkCount.{in-links}
 use Rattle.definitions.proofs.Linked.{first-append, linked-split}
 use Rattle.chains.proofs.Links.{Link, AllLinks, DoublyLinked, well-formed-linked, link-nonzero, links-first, prev-of-next}
 use Rattle.chains.proofs.Find.{chainFrom, chain-of, opened≢closed}
-use Rattle.walks.specs.WalkOrder.{Walks}
+use Rattle.definitions.specs.WalkOrder.{Walks}
 use Rattle.walks.proofs.Steps.{over, ahead, turns, closes, behind}
 
 module _ (a : Arena) (o : ℕ) where

@@ -5,15 +5,15 @@ use mathlib.Core.Path.{_≡_}
 use mathlib.Core.Bool.{Bool, true, false}
 use mathlib.Core.List.{List}
 use lib.ListN.{length, getD, take, drop}
 use Rattle.definitions.specs.Columns.{at, count}
 use Rattle.definitions.specs.Arena.{Arena, current, isLink}
 use Rattle.definitions.specs.Chains.{Chain, IsChain}
 use Rattle.definitions.specs.Check.{WellFormed}
 use Rattle.definitions.specs.Edit.{overflows}
 use Rattle.definitions.specs.Remove.{removedAll}
 use Rattle.definitions.specs.Reply.{Reply}
-use Rattle.walks.specs.WalkOrder.{WalkOrder}
-use Rattle.drains.specs.Report.{itemSlots}
+use Rattle.definitions.specs.WalkOrder.{WalkOrder}
+use Rattle.definitions.specs.Report.{itemSlots}
 
 -- slot s is the link that it was, with its neighbours, its generation and its payload
 pub record Untouched (a b : Arena) (s : ℕ) : Type 0 where

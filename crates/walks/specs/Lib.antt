@@ -1,2 +1,0 @@
-pub mod WalkOrder
-pub mod Answers
