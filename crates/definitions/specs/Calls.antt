@@ -57,8 +57,8 @@ accepted top (Run commands) a l = run top a commands l
 accepted top (CompressWith reset) a l = compressWith top reset a l
 accepted top (CompressCanonical reset) a l = compressCanonical top reset a l
 
--- the reply of a call. Where the check refuses, the call is refused with the same number: the further fields are 0, the arena and what was handed
--- in stay. limit is the capacity limit, top the largest generation (REFERENCE, Replies)
+-- the reply of a call. Where the check refuses, the call is refused with the same number: the further fields are 0, the arena and what was handed in
+-- stay. limit is the capacity limit, top the largest generation (REFERENCE, Replies)
 unfoldable pub replyTo : ℕ → ℕ → Call → Arena → List ℕ → Reply
 replyTo limit top c a l = cond (eqb (verdict limit a) 0) (accepted top c a l) (refusal (verdict limit a) (length (accepted top c a l .fields)) a l)
 

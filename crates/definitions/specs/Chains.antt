@@ -1,5 +1,5 @@
--- What demand 3 speaks of: chains of slots, listings, renamings, pieces and chains of payloads
--- (REFERENCE, Chains; REFERENCE, What canonical compression keeps).
+-- What demand 3 speaks of: chains of slots, listings, renamings, pieces and chains of payloads (REFERENCE, Chains;
+-- REFERENCE, What canonical compression keeps).
 use Prim.Native.Nat.{ℕ, zero, suc, _≤_, _<_}
 use mathlib.Core.Path.{_≡_}
 use mathlib.Core.Bool.{Bool, true, false, cond}

@@ -18,8 +18,8 @@ misshapen limit a =
     || not (eqb (length (a .generation)) (capacity a))
     || not (eqb (length (a .payload)) (capacity a))
 
--- the freelist followed from slot s, with so many visits left and so many made. A visit answers 6 for slot 0, 7 above the stack, 8 for a link;
--- a slot that points at itself ends the list, with 10 if fewer slots were visited than are free; no visit left: 9 (REFERENCE, Check)
+-- the freelist followed from slot s, with so many visits left and so many made. A visit answers 6 for slot 0, 7 above the stack, 8 for a link; a slot
+-- that points at itself ends the list, with 10 if fewer slots were visited than are free; no visit left: 9 (REFERENCE, Check)
 unfoldable pub freelistWalk : List ℕ → List ℕ → ℕ → ℕ → ℕ → ℕ → ℕ
 freelistWalk ns gs n zero s visited = 9
 freelistWalk ns gs n (suc left) s visited =
@@ -42,8 +42,8 @@ unfoldable pub allFine : List ℕ → List ℕ → List ℕ → ℕ → ℕ → 
 allFine ps ns gs n zero = true
 allFine ps ns gs n (suc k) = neighboursFine ps ns gs n (suc k) && allFine ps ns gs n k
 
--- rules 4 to 10, 0 if none fails: m, the link count, is the number of links, and s, the root, is 0 exactly if no slot is free; if there is a root, the
--- freelist is followed from it for at most stack length + 2 visits (REFERENCE, Check)
+-- rules 4 to 10, 0 if none fails: m, the link count, is the number of links, and s, the root, is 0 exactly if no slot is free; if there is a root,
+-- the freelist is followed from it for at most stack length + 2 visits (REFERENCE, Check)
 unfoldable pub countsOf : List ℕ → List ℕ → ℕ → ℕ → ℕ → ℕ
 countsOf ns gs n m s =
     let free = length (freeSlots gs n) in

@@ -100,8 +100,8 @@ putAtI t l = record { slots = exchangeSlots (l .i) t (l .slots); from = exchange
 unfoldable pub lowestFrom : Arena → ℕ → ℕ
 lowestFrom a i = firstOr 0 (keep (isLink a) (slotsFrom i (suc (stackLength a) - i)))
 
--- the slot where the chain of o begins: back along prev from s to a link without prev; o itself if prev leads to o again, so the chain is closed.
--- o also if the steps run out, which does not happen with as many as the stack is long
+-- the slot where the chain of o begins: back along prev from s to a link without prev; o itself if prev leads to o again, so the chain is closed. o
+-- also if the steps run out, which does not happen with as many as the stack is long
 unfoldable pub startOf : Arena → ℕ → ℕ → ℕ → ℕ
 startOf a zero o s = o
 startOf a (suc steps) o s =

@@ -76,8 +76,8 @@ module _ (limit top : ℕ) where
     pub words : Agree (arenaAfter limit top calls b) b n
     pub columns : Every (λ r. Accepted r → take n (r .back) ≡ slotsFrom 1 n) (repliesTo limit top calls b)
 
-  -- demand 3, in five fields. accepted: when a compression is done. one: what it keeps. listings: any two listings of the old chains pair up. same: equal
-  -- words mean equal chains of payloads. unmoved: further compressions, done or refused, move nothing
+  -- demand 3, in five fields. accepted: when a compression is done. one: what it keeps. listings: any two listings of the old chains pair up. same:
+  -- equal words mean equal chains of payloads. unmoved: further compressions, done or refused, move nothing
   pub record Demand3 : Type 0 where
     -- where the check passes and the where-from column has the length of the columns, with and without reset
     pub accepted : (a : Arena) (f : Further) → verdict limit a ≡ 0 → length (f .whereFrom) ≡ capacity a → Accepted (compress f a)

@@ -34,8 +34,8 @@ joined a s = withLinks a (put (a .prev) (at (a .next) s) (at (a .prev) s)) (put 
 unfoldable pub vacated : Arena → ℕ → ℕ → List ℕ → Arena
 vacated a s f h = arena (put (a .prev) s 0) (put (a .next) s f) (put (a .generation) s 0) (put (a .payload) s 0) h
 
--- slot s removed: its neighbours are joined, there is one link less, and the generation is raised. The slot that ends the stack is popped; any
--- other slot becomes the root, and leads on to the root that was, or to itself where none was (REFERENCE, Remove)
+-- slot s removed: its neighbours are joined, there is one link less, and the generation is raised. The slot that ends the stack is popped; any other
+-- slot becomes the root, and leads on to the root that was, or to itself where none was (REFERENCE, Remove)
 unfoldable pub removed : ℕ → Arena → ℕ → Arena
 removed top a s =
     let fewer = withLinkCount (linkCount a - 1) (withCurrent (nextGeneration top (current a)) (a .header)) in
@@ -75,8 +75,8 @@ unfoldable pub threaded : List ℕ → List ℕ → List ℕ
 threaded ns [] = ns
 threaded ns (s ∷ ss) = threaded (put ns s (firstOr s ss)) ss
 
--- the free slots above the highest link are popped, so that the stack ends with it. The others are listed in rising order, the lowest being the
--- root (REFERENCE, Freelist)
+-- the free slots above the highest link are popped, so that the stack ends with it. The others are listed in rising order, the lowest being the root
+-- (REFERENCE, Freelist)
 unfoldable pub canonicalizeFreelist : Arena → List ℕ → Reply
 canonicalizeFreelist a l =
     let n = stackLength a in

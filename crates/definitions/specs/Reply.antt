@@ -4,8 +4,8 @@ use mathlib.Core.List.{List}
 use lib.ListN.{replicate}
 use Rattle.definitions.specs.Arena.{Arena}
 
--- the number (0: done, 100: done, and the generation overflowed, any other: refused), the further fields in their order, the arena that is left,
--- and what is handed back: report, answers or where-from column as they are left, the words of a walk's state, or what was handed in
+-- the number (0: done, 100: done, and the generation overflowed, any other: refused), the further fields in their order, the arena that is left, and
+-- what is handed back: report, answers or where-from column as they are left, the words of a walk's state, or what was handed in
 pub record Reply : Type 0 where
   pub number : ℕ
   pub fields : List ℕ

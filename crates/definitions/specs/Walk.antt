@@ -43,8 +43,8 @@ pub record Stepped : Type 0 where
 abbrev pub none : Walk → Stepped
 none w = record { answer = pointer 0 0; state = w }
 
--- the state after the link at the position was answered, one advance less. Along prev it goes on to prev. Along next it goes on to next; where
--- there is none it turns, to the prev of the start (0 if the start is no link); where next is the start it is over (REFERENCE, Walk)
+-- the state after the link at the position was answered, one advance less. Along prev it goes on to prev. Along next it goes on to next; where there
+-- is none it turns, to the prev of the start (0 if the start is no link); where next is the start it is over (REFERENCE, Walk)
 unfoldable pub onward : Arena → Walk → Walk
 onward a w =
     let ahead = at (a .next) (w .position) in
@@ -54,8 +54,8 @@ onward a w =
     (cond (eqb ahead (w .start)) (walk (w .start) 0 (w .direction) left)
     (walk (w .start) ahead (w .direction) left)))
 
--- with no advance left: none, and the same state. At a position that is no link: none, the walk is over, and there is one advance less. Else the
--- link at the position, and onward (REFERENCE, Walk)
+-- with no advance left: none, and the same state. At a position that is no link: none, the walk is over, and there is one advance less. Else the link
+-- at the position, and onward (REFERENCE, Walk)
 unfoldable pub step : Arena → Walk → Stepped
 step a w =
     cond (eqb (w .left) 0) (none w)
