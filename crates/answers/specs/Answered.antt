@@ -1,4 +1,4 @@
--- What the answer of an exported call says.
+-- What the answer of an exported call says (REFERENCE, Replies).
 use Prim.Native.Nat.{ℕ}
 use mathlib.Core.Path.{_≡_}
 use mathlib.Core.List.{List}

@@ -4,7 +4,7 @@ ghost use Rattle.definitions.specs.Lent.{atEntry};
 ghost use Rattle.answers.specs.Answered.{Verdict};
 use chain_arena::check;
 
-// What every exported result begins with: 0 done, 100 done with generation overflow, else the refusal; and the slot that 11 names, else 0.
+// What every exported result begins with: its number, and with 11 a link at which that rule fails, else 0 (REFERENCE, Replies).
 #[repr(C)]
 pub struct Answer {
     pub number: u32,

@@ -1,4 +1,4 @@
--- Refusals 1 to 3, the first tests of the verdict.
+-- Refusals 1 to 3, the first tests of the verdict (REFERENCE, Check).
 use Prim.Native.Nat.{ℕ}
 use mathlib.Core.Bool.{cond, _||_}
 use lib.Dec.{ltb}

@@ -26,7 +26,7 @@ pub enum GenerationSet {
 }
 
 impl GenerationSet {
-    // Document 01's number for the answer.
+    // The number of the answer (REFERENCE, Numbers).
     pub fn number(self) -> u32
         ensures { λ r. ⌜ r ≡ generationSetNumber self ⌝ }
     {
@@ -37,7 +37,7 @@ impl GenerationSet {
     }
 }
 
-// Makes g the current generation of the arena with this header: '`set_generation` accepts 1 in the crate; here it refuses'.
+// Makes g the current generation of the arena with this header. 0 and 1 are refused, which the crate does not do (docs/DIFFERENCES.md).
 pub fn set_generation(header: &mut [u32], g: Gen) -> GenerationSet
     requires { ⌜ length (now header) ≡ headerWords ⌝ }
     ensures { λ r. ⌜ ((ps ns gs vs : List ℕ) → reply (generationSetNumber r) [] (arena ps ns gs vs (now (header .exit))) []
@@ -102,7 +102,7 @@ pub fn clear_words(column: &mut [u32], m: usize, n: usize)
     }
 }
 
-// Pops the slots past slot m of a stack of n: 'a popped slot gets 0 in all four columns'.
+// Pops the slots past slot m of a stack of n: their words become 0, in every column.
 pub fn pop_slots(
     prev: &mut [u16],
     next: &mut [u16],
@@ -121,7 +121,8 @@ pub fn pop_slots(
     clear_words(payload, m, n);
 }
 
-// Lists the free slots of a stack of m slots in rising order, the highest pointing at itself, and answers the lowest: the root, 0 for none.
+// Lists the free slots of a stack of m slots in rising order, so that the highest points at itself. Answers the lowest, which is the root; 0 for
+// none.
 pub fn relist(next: &mut [u16], generation: &[u32], m: usize) -> u16
     requires { ⌜ (m ≤ length (now next)) × (m ≤ length (now generation)) × (m ≤ 65535) ⌝ }
     ensures { λ r. ⌜ (r ≡ firstOr 0 (freeSlots (now (generation .entry)) m)) × (now (next .exit) ≡ threaded (now (next .entry)) (freeSlots (now (generation .entry)) m)) ⌝ }

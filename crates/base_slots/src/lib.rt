@@ -61,7 +61,7 @@ pub fn count_removal(header: &mut [u32]) -> bool
     raised.overflow
 }
 
-// Pops slot s, the last of the stack. The freelist is left alone.
+// Pops slot s, the last of the stack. The freelist stays as it is.
 pub fn pop(
     prev: &mut [u16],
     next: &mut [u16],
@@ -80,7 +80,7 @@ pub fn pop(
     header[STACK_LENGTH] = s.0 as u32 - 1;
 }
 
-// What a freed slot s points at: the old root, or itself if there was none.
+// Where the freelist goes on from a slot s that is freed: at the root that was, or at s itself where none was.
 pub fn freelist_pointer(root: u32, s: Slot) -> Slot
     requires { ⌜ root ≤ capacityLimit ⌝ }
     ensures { λ r. ⌜ r .0 ≡ cond (eqb root 0) (s .0) root ⌝ }
@@ -91,7 +91,7 @@ pub fn freelist_pointer(root: u32, s: Slot) -> Slot
     Slot(root as u16)
 }
 
-// Frees slot s: it becomes the freelist's root, and points at the old root, or at itself if there was none.
+// Frees slot s: it becomes the root, and the freelist goes on from it as `freelist_pointer` says.
 pub fn free(
     prev: &mut [u16],
     next: &mut [u16],

@@ -1,4 +1,5 @@
--- The exchange of two slots in place: the link in slot t goes to slot i, and what is there, a link or nothing, to slot t.
+-- The exchange of two slots in place: the link in slot t goes to slot i, and what is there, a link or nothing, to slot t
+-- (REFERENCE, Canonical compression).
 use Prim.Native.Nat.{ℕ, _≤_, _<_}
 use mathlib.Core.Path.{_≡_}
 use mathlib.Core.Bool.{cond}

@@ -1,4 +1,4 @@
--- The columns that are written while an arena is laid out, lent up to the stack length: words past it are not the code's business.
+-- The columns that are written while an arena is laid out, lent up to the stack length: what is above it is not the code's business.
 use Prim.Native.Nat.{ℕ}
 use mathlib.Core.Path.{_≡_}
 use mathlib.Core.List.{List}

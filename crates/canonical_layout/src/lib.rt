@@ -11,7 +11,7 @@ use canonical_exchange::exchange;
 use columns::slot_at;
 use ptr::Slot;
 
-// Puts the link in slot t into the slot after those that are laid out, by exchanging slots with what is there. Answers the slot of its next.
+// Puts the link in slot t into the slot after those that are laid out; what is there goes to slot t. Answers the slot of the link's next.
 pub fn lay_link(
     prev: &mut [u16],
     next: &mut [u16],

@@ -1,5 +1,5 @@
-// The marked case K11, run through the proved call and printed as document 01 gives it: 'new slot, old slot from the where-from column, prev and next
-// afterwards'.
+// The marked case K11, run through the proved call and printed (REFERENCE, Marked cases): a line for each slot, with the slot that its link was in
+// before, and its prev and next.
 ghost use mathlib.Core.Path.{_≡_};
 ghost use lib.ListN.{length};
 use level_three_compress_canonical::chain_arena_compress_canonical;
@@ -28,7 +28,7 @@ fn print_slots(prev: &[u16], next: &[u16], where_from: &[u16])
     }
 }
 
-// 'K11 1→5 and lone 2, 3, 4', all links of generation 5.
+// K11: slots 1 and 5 are a chain, slots 2, 3 and 4 are lone, and all links are of generation 5.
 fn main() {
     let mut prev = [0u16, 0, 0, 0, 1];
     let mut next = [5u16, 0, 0, 0, 0];

@@ -1,4 +1,4 @@
--- Rule 11 at a slot, as the code reads the columns: slot s is at place s - 1. Assumes nothing.
+-- Rule 11 at a slot, as the code reads the columns: the word of slot s at place s - 1. Assumes nothing.
 use Prim.Native.Nat.{ℕ, zero, suc, _-_, _≤_, _<_}
 use mathlib.Core.Path.{_≡_, refl, sym, ap, _∙_}
 use mathlib.Core.Bool.{Bool, true, false, cond, not, _&&_, _||_, true≢false}

@@ -1,4 +1,4 @@
--- What the check's answer says of the arena.
+-- What the check's answer says of the arena (REFERENCE, Check).
 use Prim.Native.Nat.{ℕ}
 use mathlib.Core.Path.{_≡_}
 use Rattle.definitions.specs.Arena.{Arena, capacityLimit}
@@ -6,13 +6,13 @@ use Rattle.definitions.specs.Check.{verdict, Names}
 use Rattle.chain_arena.specs.declared.Checked.{Checked}
 use Rattle.chain_arena.specs.declared.Checked.the-variants.{Passed, Refused, Broken}
 
--- document 01's number for each answer
+-- the number of each answer (REFERENCE, Numbers)
 abbrev pub checkedNumber : Checked → ℕ
 checkedNumber Passed = 0
 checkedNumber (Refused k) = k
 checkedNumber (Broken s) = 11
 
--- the slot that 11 names, else 0
+-- the link at which rule 11 was found to fail, else 0
 abbrev pub brokenSlot : Checked → ℕ
 brokenSlot Passed = 0
 brokenSlot (Refused k) = 0

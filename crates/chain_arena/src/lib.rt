@@ -22,7 +22,7 @@ pub enum Checked {
 }
 
 impl Checked {
-    // Document 01's number for the answer.
+    // The number of the answer (REFERENCE, Numbers).
     pub fn number(self) -> u32
         ensures { λ r. ⌜ r ≡ checkedNumber self ⌝ }
     {
@@ -33,7 +33,7 @@ impl Checked {
         }
     }
 
-    // The slot that 11 names, else 0.
+    // The link at which rule 11 was found to fail, else 0.
     pub fn broken(self) -> u32
         ensures { λ r. ⌜ r ≡ brokenSlot self ⌝ }
     {

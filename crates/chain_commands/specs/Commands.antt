@@ -1,4 +1,4 @@
--- A command of a run as the code has it, and what it answers and leaves.
+-- A command of a run as the code has it, and what it answers and leaves (REFERENCE, Run).
 use Prim.Native.Nat.{ℕ}
 use mathlib.Core.Path.{_≡_}
 use mathlib.Core.Bool.{cond}
@@ -16,7 +16,7 @@ widePointer p = pointer (p .slot) (p .generation .0)
 abbrev pub commandOf : Command → Command₁
 commandOf c = record { code = c .code; first = widePointer (c .first); second = widePointer (c .second) }
 
--- a pointer whose slot fits 16 bits: a slot over 65,535 is stale, and so is slot 0
+-- a pointer in 16 bits: slot 0, which is always stale, instead of one over 65,535, which is stale too
 abbrev pub narrowed : Pointer → Pointer
 narrowed p = pointer (cond (ltb capacityLimit (p .slot)) 0 (p .slot)) (p .generation)
 

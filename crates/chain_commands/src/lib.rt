@@ -1,4 +1,4 @@
-// The commands of a run, and one of them applied to an arena that passed the check: 'Command: code, two slots each followed by its generation'.
+// The commands of a run, and one of them applied to an arena that passed the check (REFERENCE, Run).
 ghost use mathlib.Core.Path.{_≡_};
 ghost use Prim.Native.Nat.{_+_, _*_, _≤_};
 ghost use lib.ListN.{length};
@@ -26,7 +26,7 @@ pub struct WidePtr {
 }
 
 impl WidePtr {
-    // The pointer in 16 bits; 'A slot over 65,535 is stale', as slot 0 is.
+    // The pointer in 16 bits. Slot 0 stands for one that does not fit: both are stale.
     pub fn narrow(self) -> Ptr
         ensures { λ r. ⌜ pointerOf r ≡ narrowed (widePointer self) ⌝ }
     {
@@ -45,7 +45,7 @@ impl WidePtr {
     }
 }
 
-// A command: codes 1 connect, 2 break prev, 3 break next, 4 exchange, 5 remove.
+// A command: what to do, by its code, and two pointers (REFERENCE, Run).
 pub struct Command {
     pub code: u32,
     pub first: WidePtr,
@@ -71,7 +71,7 @@ pub fn command_at(commands: &[u32], i: usize) -> Command
     }
 }
 
-// One command. Answers 0, 100, 12, 13, or 16 for another code.
+// One command. Answers its number: 0 or 100 where it was done, 12 or 13 where it was refused, 16 for an unknown code.
 pub fn apply(
     prev: &mut [u16],
     next: &mut [u16],

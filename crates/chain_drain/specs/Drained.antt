@@ -1,4 +1,4 @@
--- Document 01's number and fields for what a drain answers.
+-- What a drain answers, as number and fields (REFERENCE, Drain).
 use Prim.Native.Nat.{ℕ}
 use mathlib.Core.List.{List, [], _∷_}
 use Rattle.definitions.specs.Arena.{Arena}
@@ -6,8 +6,8 @@ use Rattle.definitions.specs.Reply.{Reply, reply, refusal}
 use Rattle.chain_drain.specs.declared.Drained.{Drained}
 use Rattle.chain_drain.specs.declared.Drained.the-variants.{Done, Stale, Short}
 
--- 0 done, with the item count and the item that overflowed; 12, a stale pointer; 14, a report that is too short. a is the arena that is left, and
--- the report is handed back
+-- 0 with how many links were removed and which one overflowed; 12 for a stale pointer; 14 for a report that is too short. a is the arena that is
+-- left, and the report is handed back
 abbrev pub drainReply : Drained → Arena → List ℕ → Reply
 drainReply (Done items overflowed) a report = reply 0 (items ∷ overflowed ∷ []) a report
 drainReply Stale a report = refusal 12 2 a report

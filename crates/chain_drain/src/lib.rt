@@ -1,4 +1,4 @@
-// The drain of a chain (`ChainDrain` of chain/chain_iterators.rs) in an arena that passed the check. Since a drain is always whole, the report can
+// The drain of a chain (`ChainDrain` of chain/chain_iterators.rs) in an arena that passed the check. Since no drain is left half done, the report can
 // hold the walk's slots before the first of them is removed: so the order is the walk's own, and no memory is needed but the lent report.
 ghost use mathlib.Core.Path.{_≡_};
 ghost use Rattle.definitions.specs.Arena.{capacityLimit, largestGeneration};
@@ -16,15 +16,15 @@ use ptr::Ptr;
 
 // What a drain answers.
 pub enum Drained {
-    // So many items; `overflowed` is the item, from 1, whose removal overflowed the generation, 0 for none.
+    // How many links were removed, and which one of them, counted from 1, made the generation overflow; 0 if none did.
     Done { items: u32, overflowed: u32 },
     // The pointer is stale.
     Stale,
-    // The report has fewer than five words for each link of the chain.
+    // The report has fewer than five words for each link to be removed.
     Short,
 }
 
-// Removes every link of p's chain, in the order of a walk from p, and reports each as it is at its own removal.
+// Removes every link of p's chain, in the order of a walk from p, and reports each as it is when its turn comes (REFERENCE, Drain).
 pub fn drain(
     prev: &mut [u16],
     next: &mut [u16],

@@ -134,7 +134,7 @@ pub fn drain_item(
     take_out(prev, next, generation, payload, header, s)
 }
 
-// The item whose removal overflowed: the one that is known, or else this one if it did; 0 for none.
+// The item that made the generation overflow: the one that is known, or else this one if it did; 0 for none.
 pub fn overflowed_item(known: u32, overflow: bool, item: u32) -> u32
     ensures { λ r. ⌜ r ≡ cond (eqb known 0) (cond overflow item 0) known ⌝ }
 {
@@ -144,8 +144,8 @@ pub fn overflowed_item(known: u32, overflow: bool, item: u32) -> u32
     if overflow { item } else { 0 }
 }
 
-// Drains the links whose slots are listed in the report, so many items, one after the other. Answers the item, from 1, whose removal overflowed the
-// generation, 0 for none.
+// Drains the links whose slots are listed in the report, so many items, one after the other. Answers which one, counted from 1, made the generation
+// overflow; 0 for none.
 pub fn drain_items(
     prev: &mut [u16],
     next: &mut [u16],

@@ -1,4 +1,4 @@
--- Document 01's number for the answer of an edit, and the reply that it is.
+-- The number of an edit's answer, and the reply that it is (REFERENCE, Numbers).
 use Prim.Native.Nat.{ℕ}
 use mathlib.Core.Bool.{Bool, cond}
 use mathlib.Core.List.{[]}
@@ -9,7 +9,7 @@ use Rattle.definitions.specs.Reply.{Reply, reply}
 use Rattle.chain_edits.specs.declared.Edited.{Edited}
 use Rattle.chain_edits.specs.declared.Edited.the-variants.{Done, Stale, Misplaced}
 
--- 0 done; 12, a stale pointer; 13, a neighbour that connect must not find, or that break and exchange must
+-- 0 where it was done; 12 for a stale pointer; 13 for a neighbour that connect must not find, or that break and exchange must
 abbrev pub editedNumber : Edited → ℕ
 editedNumber Done = 0
 editedNumber Stale = 12

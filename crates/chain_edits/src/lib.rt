@@ -28,7 +28,7 @@ pub enum Edited {
 }
 
 impl Edited {
-    // Document 01's number for the answer.
+    // The number of the answer (REFERENCE, Numbers).
     pub fn number(self) -> u32
         ensures { λ r. ⌜ r ≡ editedNumber self ⌝ }
     {

@@ -1,4 +1,4 @@
--- The walk's state and answers as the definitions have them, and in document 01's numbers and words.
+-- The walk's state and answers as the definitions have them, and as numbers and words (REFERENCE, Walk).
 use Prim.Native.Nat.{ℕ}
 use mathlib.Core.List.{List}
 use Rattle.definitions.specs.Arena.{Arena}
@@ -10,7 +10,7 @@ use Rattle.chain_iterators.specs.declared.Advanced.{Advanced}
 use Rattle.chain_iterators.specs.declared.Started.{Started}
 use Rattle.chain_iterators.specs.declared.Started.the-variants.{At, Stale}
 
--- the code's state: where it started, its position, its direction and the advances left
+-- the code's state: where it began, its position, its direction and how many steps may advance
 abbrev pub walkOf : ChainPtrAdvancer → Walk
 walkOf w = walk (w .init) (w .ptr) (w .switch) (w .«max_advances»)
 

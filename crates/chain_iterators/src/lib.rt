@@ -19,15 +19,15 @@ use header::STACK_LENGTH;
 use ptr::Ptr;
 use ptr::Slot;
 
-// A walk along one chain. Its words can be any: a position past the stack, free or 0 has ended.
+// A walk along one chain. Any words may stand in it: at a position that is no link of the stack the walk is over (REFERENCE, Walk).
 pub struct ChainPtrAdvancer {
-    // where the walk started
+    // where the walk began
     pub init: u32,
-    // the slot that the next step answers, 0 where the walk has ended
+    // the slot that the next step answers, 0 where the walk is over
     pub ptr: u32,
     // 0 along next, any other along prev
     pub switch: u32,
-    // the advances left
+    // how many more steps may advance
     pub max_advances: u32,
 }
 

@@ -1,4 +1,4 @@
--- What a whole run answers and leaves.
+-- What a whole run answers and leaves (REFERENCE, Run).
 use Prim.Native.Nat.{ℕ}
 use mathlib.Core.Path.{_≡_}
 use mathlib.Core.List.{List, []}
@@ -14,7 +14,7 @@ pub record AllApplied (top : ℕ) (a : Arena) (ws old : List ℕ) (left : Arena)
   pub arena : left ≡ applied top a (commandsOf ws)
   pub answers : told ≡ written (answersOf top a (commandsOf ws)) old
 
--- 0 done; '16, command words not a multiple of five. Then 14, fewer answer words than commands.'
+-- 0 where it was done; 16 for words that are no whole commands; 14 for too few answer words
 abbrev pub ranNumber : Ran → ℕ
 ranNumber Done = 0
 ranNumber Incomplete = 16

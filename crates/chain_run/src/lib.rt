@@ -50,12 +50,12 @@ pub enum Ran {
     Done,
     // The last command lacks words.
     Incomplete,
-    // There are fewer answer words than commands.
+    // Not every command has an answer word.
     TooFewAnswers,
 }
 
 impl Ran {
-    // Document 01's number for the answer.
+    // The number of the answer (REFERENCE, Numbers).
     pub fn number(self) -> u32
         ensures { λ r. ⌜ r ≡ ranNumber self ⌝ }
     {

@@ -1,4 +1,4 @@
--- What the reading functions answer, in document 01's numbers and words.
+-- What the reading functions answer, as numbers and words (REFERENCE, Reading).
 use Prim.Native.Nat.{ℕ}
 use mathlib.Core.Bool.{Bool}
 use mathlib.Core.List.{List, [], _∷_}

@@ -48,7 +48,7 @@ pub fn pointer_to(generation: &[u32], s: Slot) -> Ptr
     }
 }
 
-// Whether p is stale where the stack is n slots long: its slot is 0, past the stack or free, or the generations differ.
+// Whether p is stale where the stack is n slots long (REFERENCE, Pointers and generations).
 pub fn stale(generation: &[u32], n: usize, p: Ptr) -> bool
     requires { ⌜ n ≤ length (now generation) ⌝ }
     ensures { λ r. ⌜ r ≡ staleIn (now (generation .entry)) n (pointerOf p) ⌝ }

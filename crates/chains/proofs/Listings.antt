@@ -1,4 +1,5 @@
--- Every link is on exactly one chain; the chains can be listed; and any two listings of one arena's chains pair up, like with like. Assumes nothing.
+-- Every link is on one chain and on no other; the chains can be listed; and any two listings of one arena's chains pair up, each chain with the same
+-- chain. Assumes nothing.
 use Prim.Native.Nat.{ℕ, zero, suc, _+_, _≤_, _<_}
 use mathlib.Core.Path.{_≡_, refl, sym, ap, subst, _∙_}
 use mathlib.Core.Logic.{_⊎_, inl, inr}
@@ -40,7 +41,7 @@ alike-sym c d r = (sym (r .0), subst (λ (k : Kind). Like k (d .members) (c .mem
 abbrev pub membersOf : List Chain → List (List ℕ)
 membersOf cs = map (λ (c : Chain). c .members) cs
 
--- who stands in them is a member of one; of one only, if no slot comes twice
+-- who stands in them is a member of one; of one only, if nobody stands in them twice
 pub in-some : (cs : List Chain) (x : ℕ) → In x (flatten (membersOf cs)) → (k : ℕ) × (k < length cs) × In x (nth cs k .members)
 unfolding flatten nth
 in-some [] x i = absurd (not-in-nil x i)
@@ -181,7 +182,7 @@ module _ (a : Arena) (cs ds : List Chain) (x : Listing a cs) (y : Listing a ds) 
 
 -- ---- the theorems
 
--- 'Every link is on exactly one chain.'
+-- every link is on a chain, and all chains that it is on are the same
 pub linked-on-one-chain : (a : Arena) → DoublyLinked a → (s : ℕ) → Link a s → OnOneChain a s
 unfolding Alike
 linked-on-one-chain a linked s h =

@@ -1,2 +1,2 @@
-// Chains of an arena, as document 01 words them: every link is on exactly one chain, and any two listings of the chains pair up.
+// Chains of an arena (REFERENCE, Chains): every link is on one and on no other, and any two listings of them pair up.
 // Laws alone; there is no code here.

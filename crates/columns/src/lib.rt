@@ -1,4 +1,4 @@
-// A slot's word in a lent column: slot s is at place s - 1.
+// A slot's word in a lent column: that of slot s has index s - 1 (REFERENCE, Arena).
 ghost use mathlib.Core.Path.{_≡_};
 ghost use Prim.Native.Nat.{_≤_, _<_};
 ghost use lib.ListN.{length};

@@ -1,10 +1,10 @@
--- Document 01's numbers for the answer of canonical compression.
+-- The numbers of canonical compression's answers (REFERENCE, Numbers).
 use Prim.Native.Nat.{ℕ}
 use Rattle.ptr.specs.Extra.{invalidationNumber}
 use Rattle.compress_canonical.specs.declared.Compressed.{Compressed}
 use Rattle.compress_canonical.specs.declared.Compressed.the-variants.{Done, WrongLength}
 
--- 0 done, 100 done with generation overflow; '14, where-from column (u16) not as long as the others'
+-- 0 or 100 where it was done; 14 for a where-from column that has not the length of the columns
 abbrev pub compressedNumber : Compressed → ℕ
 compressedNumber (Done overflow) = invalidationNumber overflow
 compressedNumber WrongLength = 14

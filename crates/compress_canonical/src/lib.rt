@@ -33,7 +33,7 @@ pub enum Compressed {
 }
 
 impl Compressed {
-    // Document 01's number for the answer.
+    // The number of the answer (REFERENCE, Numbers).
     pub fn number(self) -> u32
         ensures { λ r. ⌜ r ≡ compressedNumber self ⌝ }
     {
@@ -67,7 +67,7 @@ fn mark_links(where_from: &mut [u16], generation: &[u32])
     }
 }
 
-// Lays out the links of an arena: they stand in slots 1, 2, and so on, chain after chain in next order, and the where-from column says who is in a slot.
+// Lays out the links of an arena: they stand in slots 1, 2, and so on, one chain behind the other, and the where-from column says who is in a slot.
 fn lay_out(
     prev: &mut [u16],
     next: &mut [u16],
@@ -111,7 +111,7 @@ fn shrink(
     header[STACK_LENGTH] = links;
 }
 
-// Canonical compression of an arena that passed the check: chain after chain, each on consecutive slots in next order.
+// Canonical compression of an arena that passed the check: one chain behind the other, each along next (REFERENCE, Canonical compression).
 pub fn compress_canonical(
     prev: &mut [u16],
     next: &mut [u16],

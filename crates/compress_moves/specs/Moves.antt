@@ -13,7 +13,8 @@ pub record Renewed (top : ℕ) (reset : Bool) (a : Arena) (k : ℕ) (h : List �
   pub number : k ≡ compressNumber top reset a
   pub header : h ≡ withCurrent (compressGeneration top reset a) (a .header)
 
--- a generation column in which each link up to slot n has its new slot instead, where links move down in slot order; a free slot keeps its 0
+-- a generation column in which each link up to slot n has its new slot instead, if the links go to the front in the order of their slots; a free slot
+-- keeps its 0
 unfoldable pub numbered : List ℕ → ℕ → List ℕ
 numbered gs n = written (map (place (linkSlots gs n)) (slotsFrom 1 n)) gs
 

@@ -14,7 +14,7 @@ use header::LINK_COUNT;
 use ptr::Gen;
 use ptr::InvalidationOption;
 
-// 'Compression first raises the generation and answers whether it overflowed, or sets it to 2 on reset, which is never an overflow.'
+// The generation of a compression: 2 with reset, else one step on, but the same where there is no link. Answers whether the step overflowed.
 pub fn renew_generation(header: &mut [u32], reset: bool) -> InvalidationOption
     requires { ⌜ length (now header) ≡ headerWords ⌝ }
     ensures { λ r. ⌜ ((ps ns gs vs : List ℕ) → Renewed largestGeneration reset (arena ps ns gs vs (now (header .entry))) (invalidationNumber r) (now (header .exit))) ⌝ }
@@ -30,7 +30,7 @@ pub fn renew_generation(header: &mut [u32], reset: bool) -> InvalidationOption
     InvalidationOption::Success
 }
 
-// Writes the four words of a link behind those of count links: 'old slot, old generation, new slot, new generation'.
+// Writes the four words of a link behind those of count links: the slot and the generation that it had, and those that it gets.
 pub fn tell_move(report: &mut [u32], count: usize, slot: u32, old: u32, new: u32)
     requires { ⌜ (count < 65535) × (4 * count + 4 ≤ length (now report)) ⌝ }
     ensures { λ _. ⌜ now (report .exit) ≡ sets (now (report .entry)) (4 * count) (slot ∷ old ∷ (count + 1) ∷ new ∷ []) ⌝ }

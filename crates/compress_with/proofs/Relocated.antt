@@ -89,7 +89,7 @@ module _ {ps ns gs vs : List ℕ} {n links room : ℕ} (can : Compressible ps ns
   unfolding numbered
   numbers-rest = written-rest (map (place w) (slotsFrom 1 n)) gs n (omega (arith, numbers-long gs n fits))
 
-  -- every link gets the new generation
+  -- the links are all of the new generation
   stamped : (g : ℕ) → popped links n (replicate links g ++ drop links numbers) ≡ settled n (map (λ o. g) w) gs
   unfolding written
   stamped g =

@@ -30,7 +30,7 @@ pub enum Compressed {
 }
 
 impl Compressed {
-    // Document 01's number for the answer.
+    // The number of the answer (REFERENCE, Numbers).
     pub fn number(self) -> u32
         ensures { λ r. ⌜ r ≡ compressedNumber self ⌝ }
     {
@@ -41,7 +41,7 @@ impl Compressed {
     }
 }
 
-// Moves the links of a stack of n slots down in slot order, reports them, and gives them the generation new.
+// Moves the links of a stack of n slots to its front, in the order of their slots, reports them, and gives them the generation new.
 pub fn compress_columns(
     prev: &mut [u16],
     next: &mut [u16],
@@ -72,7 +72,7 @@ pub fn compress_columns(
     pop_slots(prev, next, generation, payload, links, n);
 }
 
-// Order-preserving compression of an arena that passed the check: 'links move down in slot order'.
+// Order-preserving compression of an arena that passed the check (REFERENCE, Order-preserving compression).
 pub fn compress_with(
     prev: &mut [u16],
     next: &mut [u16],

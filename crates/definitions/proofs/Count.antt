@@ -1,4 +1,4 @@
--- Laws of `count`, how often a slot stands in a list: who stands in it, 'no slot comes twice', and the pigeonhole. Assumes nothing.
+-- Laws of `count`, how often a slot stands in a list: who stands in it, lists without repetition, and the pigeonhole. Assumes nothing.
 use Prim.Native.Nat.{ℕ, suc, _+_, _≤_, _<_}
 use mathlib.Core.Path.{_≡_, refl, sym, ap, _∙_}
 use mathlib.Core.Logic.{_⊎_, inl, inr}
@@ -17,7 +17,7 @@ use Rattle.definitions.proofs.Slots.{count-nil, count-here, count-there
 abbrev pub In : ℕ → List ℕ → Type 0
 In x xs = 1 ≤ count x xs
 
--- no slot comes twice
+-- a list without repetition
 abbrev pub Once : List ℕ → Type 0
 Once xs = (x : ℕ) → count x xs ≤ 1
 
@@ -69,7 +69,7 @@ in-split x (y ∷ ys) h = go (in-cases x y ys h) (in-split x ys)
     go (inl e) ih = ([], ys, rw e)
     go (inr i) ih = let r = ih i in (y ∷ r .0, r .1, ap (λ (l : List ℕ). y ∷ l) (r .2))
 
--- ---- no slot comes twice
+-- ---- lists without repetition
 
 pub once-nil : Once []
 once-nil x = omega (arith, count-nil x)

@@ -22,7 +22,7 @@ use Rattle.definitions.proofs.Count.{In, Once, in-here, in-there, in-ca
 
 -- ---- the way from a slot to one that names itself
 
--- from s on each next names the following slot of the list; the last one, and no other, names itself
+-- from s on next leads from each slot of the list to the one after it; the last one, and no other, leads to itself
 unfoldable pub EndsInItself : (ℕ → ℕ) → ℕ → List ℕ → Type 0
 EndsInItself next s [] = next s ≡ s
 EndsInItself next s (t ∷ ts) = (next s ≡ t) × (t ≡ s → ⊥) × EndsInItself next t ts

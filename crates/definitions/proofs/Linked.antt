@@ -1,4 +1,4 @@
--- Laws of `Linked`, lists of slots in which each next names the following member. Assumes nothing.
+-- Laws of `Linked`, lists of slots in which next leads from each to the one after it. Assumes nothing.
 use Prim.Native.Nat.{ℕ}
 use mathlib.Core.Path.{_≡_, refl, sym, ap, _∙_}
 use mathlib.Core.Logic.{_⊎_, inl, inr}

@@ -28,7 +28,7 @@ counts-most ns gs n m s =
     let none = at-most 0 (eqb (length (freeSlots gs n)) 0) 5 (omega arith) (omega arith) in
     at-most 4 (not (eqb m (length (linkSlots gs n)))) _ (omega arith) (at-most _ (eqb s 0) _ none (at-most 5 (eqb (length (freeSlots gs n)) 0) _ (omega arith) (walk-most ns gs n (n + 2) s 0)))
 
--- 'refusals 1 to 11'
+-- no rule has a number above 11
 pub verdict-most : (limit : ℕ) (a : Arena) → verdict limit a ≤ 11
 unfolding verdict
 verdict-most limit a =

@@ -37,12 +37,12 @@ module _ (a : Arena) (w : Walk) where
   unfolding onward
   onward-back s d e = rw (ne-eqb _ _ d, e) refl
 
-  -- the end of an open chain: the walk turns, and goes on at the start's prev
+  -- the end of an open chain: the walk turns, and goes on with the link before the start
   pub onward-turns : (ahead s : ℕ) → w .direction ≡ 0 → ahead ≡ at (a .next) (w .position) → ahead ≡ 0 → s ≡ cond (isLink a (w .start)) (at (a .prev) (w .start)) 0 → walk (w .start) s 1 (w .left - 1) ≡ onward a w
   unfolding onward
   onward-turns ahead s e f z h = rw (eq-eqb _ _ e, ← f, eq-eqb _ _ z, h) refl
 
-  -- a closed chain's start returns: the walk has ended
+  -- a closed chain has been gone round: the walk is over
   pub onward-round : (ahead : ℕ) → w .direction ≡ 0 → ahead ≡ at (a .next) (w .position) → (ahead ≡ 0 → ⊥) → ahead ≡ w .start → walk (w .start) 0 (w .direction) (w .left - 1) ≡ onward a w
   unfolding onward
   onward-round ahead e f d r = rw (eq-eqb _ _ e, ← f, ne-eqb _ _ d, eq-eqb _ _ r) refl

@@ -1,4 +1,4 @@
--- The lent arena: 'Slot s is at place s−1 of four columns of equal length: prev and next (u16), generation and payload (u32).'
+-- The lent arena: columns prev, next, generation and payload, and the header. The word of slot s has index s − 1 (REFERENCE, Arena).
 use Prim.Native.Nat.{ℕ, suc, _+_, _≤_}
 use mathlib.Core.Bool.{Bool, true, false, cond, not, _&&_}
 use mathlib.Core.List.{List}
@@ -16,18 +16,18 @@ pub record Arena : Type 0 where
 abbrev pub arena : List ℕ → List ℕ → List ℕ → List ℕ → List ℕ → Arena
 arena ps ns gs vs h = record { prev = ps; next = ns; generation = gs; payload = vs; header = h }
 
--- 'That length, 0 to 65,535, is the capacity.'
+-- the length of prev; where the check passes all columns have it (REFERENCE, Arena)
 abbrev pub capacity : Arena → ℕ
 capacity a = length (a .prev)
 
--- the port's own limits; every definition takes them as parameters, limit and top
+-- the largest capacity and the largest generation; definitions that depend on them take them as parameters, limit and top
 abbrev pub capacityLimit : ℕ
 capacityLimit = 65535
 
 abbrev pub largestGeneration : ℕ
 largestGeneration = 4294967295
 
--- 'The header holds stack length, link count, root (0 for none) and current generation', 'in the order above (another length: 1)'
+-- how many words a header must have. Below, each of them by its index: stack length, link count, root, current generation (REFERENCE, Arena)
 abbrev pub headerWords : ℕ
 headerWords = 4
 
@@ -56,18 +56,18 @@ withRoot v h = set h 2 v
 abbrev pub withCurrent : ℕ → List ℕ → List ℕ
 withCurrent v h = set h 3 v
 
--- an arena with its two link columns changed, and with its header changed
+-- an arena with other prev and next columns, and with another header
 abbrev pub withLinks : Arena → List ℕ → List ℕ → Arena
 withLinks a ps ns = arena ps ns (a .generation) (a .payload) (a .header)
 
 abbrev pub withHeader : Arena → List ℕ → Arena
 withHeader a h = arena (a .prev) (a .next) (a .generation) (a .payload) h
 
--- 'Only slots up to the stack length are free or allocated', 'Generation 0 marks a free slot': gs is the generation column, n the stack length
+-- slot s is a link: not above the stack, and its generation is not 0. gs is the generation column, n the stack length (REFERENCE, Arena)
 unfoldable pub allocated : List ℕ → ℕ → ℕ → Bool
 allocated gs n s = leb s n && not (eqb (at gs s) 0)
 
--- the allocated slots and the free slots up to the stack length, in rising order
+-- the links and the free slots of the stack, each in rising order
 unfoldable pub linkSlots : List ℕ → ℕ → List ℕ
 linkSlots gs n = keep (allocated gs n) (slotsFrom 1 n)
 

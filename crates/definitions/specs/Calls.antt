@@ -1,4 +1,4 @@
--- The public calls, each with what it answers and leaves. 'Every call below first gives 1 to 11.'
+-- The public calls, each with what it answers and leaves, and the check that comes before it (REFERENCE, Replies).
 use Prim.Native.Nat.{ℕ}
 use mathlib.Core.Path.{_≡_}
 use mathlib.Core.Bool.{Bool, true, false, cond}
@@ -36,7 +36,7 @@ pub data Call : Type 0 where
   CompressWith : Bool → Call
   CompressCanonical : Bool → Call
 
--- on an arena that passed the check; l is what is handed in
+-- the reply where the check has passed; l is what is handed in
 unfoldable pub accepted : ℕ → Call → Arena → List ℕ → Reply
 accepted top Check a l = reply 0 [] a l
 accepted top (GetLink p) a l = getLink a p l
@@ -57,17 +57,17 @@ accepted top (Run commands) a l = run top a commands l
 accepted top (CompressWith reset) a l = compressWith top reset a l
 accepted top (CompressCanonical reset) a l = compressCanonical top reset a l
 
--- 'Every call below first gives 1 to 11.' A refusal changes nothing, and its further fields are 0. limit is the capacity limit, top the largest
--- generation
+-- the reply of a call. Where the check refuses, the call is refused with the same number: the further fields are 0, the arena and what was handed in
+-- stay. limit is the capacity limit, top the largest generation (REFERENCE, Replies)
 unfoldable pub replyTo : ℕ → ℕ → Call → Arena → List ℕ → Reply
 replyTo limit top c a l = cond (eqb (verdict limit a) 0) (accepted top c a l) (refusal (verdict limit a) (length (accepted top c a l .fields)) a l)
 
--- what a public call promises: the reply is the definition's, and only the slot that 11 names is left to the program
+-- what a public call promises: its reply is the one defined. Open is only which link the word `broken` has with 11, if that rule fails at several
 pub record Answers (limit top : ℕ) (c : Call) (a : Arena) (l : List ℕ) (broken : ℕ) (r : Reply) : Type 0 where
   pub same : r ≡ replyTo limit top c a l
   pub names : Names limit a broken
 
--- a list of calls, each with what is handed in, on what the last one left: their replies, and the arena after them
+-- calls made one after the other, each with what is handed in: their replies, and the arena in the end
 pub record Made : Type 0 where
   pub call : Call
   pub hands : List ℕ

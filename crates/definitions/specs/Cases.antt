@@ -1,4 +1,5 @@
--- The marked cases K1 to K12 as one table over the definitions: an arena, a list of calls, their answers and the arena left.
+-- The marked cases K1 to K12 as one table over the definitions: an arena, a list of calls, their answers and the arena left
+-- (REFERENCE, Marked cases).
 use Prim.Native.Nat.{ℕ}
 use mathlib.Core.Path.{_≡_, refl}
 use mathlib.Core.Bool.{Bool, true, false}
@@ -25,7 +26,7 @@ pub record Answer : Type 0 where
   pub answers : List (List ℕ)
   pub left : Arena
 
--- number, further fields, and the words of the lent slice
+-- number, further fields, and what is handed back
 abbrev pub words : Reply → List ℕ
 words r = r .number ∷ r .fields ++ r .back
 
@@ -46,7 +47,7 @@ plain c = with c []
 abbrev row : Arena → List Made → List (List ℕ) → Arena → Row
 row start calls answers left = record { start = start; calls = calls; answers = answers; left = left }
 
--- 'all links generation 5, current 5'
+-- three links in one open chain, and two links in a closed one; every generation is 5
 abbrev three : Arena
 three = arena (0 ∷ 1 ∷ 2 ∷ []) (2 ∷ 3 ∷ 0 ∷ []) (5 ∷ 5 ∷ 5 ∷ []) (11 ∷ 12 ∷ 13 ∷ []) (3 ∷ 3 ∷ 0 ∷ 5 ∷ [])
 
@@ -56,29 +57,29 @@ closedPair = arena (2 ∷ 1 ∷ []) (2 ∷ 1 ∷ []) (5 ∷ 5 ∷ []) (11 ∷ 12
 -- the table
 unfoldable pub rows : List Row
 rows =
-    -- K1 capacity 0: accepted; canonical without reset leaves generation 5
+    -- K1 an arena without slots passes, and its canonical compression without reset keeps the generation
     row (arena [] [] [] [] (0 ∷ 0 ∷ 0 ∷ 5 ∷ [])) (plain Check ∷ with (CompressCanonical false) [] ∷ []) ((0 ∷ []) ∷ (0 ∷ []) ∷ []) (arena [] [] [] [] (0 ∷ 0 ∷ 0 ∷ 5 ∷ [])) ∷
-    -- K2 lone 1, connect 1 to 1: prev and next 1
+    -- K2 a lone link connected to itself becomes a closed chain of one
     row (arena (0 ∷ []) (0 ∷ []) (5 ∷ []) (11 ∷ []) (1 ∷ 1 ∷ 0 ∷ 5 ∷ [])) (plain (Connect (pointer 1 5) (pointer 1 5)) ∷ []) ((0 ∷ []) ∷ []) (arena (1 ∷ []) (1 ∷ []) (5 ∷ []) (11 ∷ []) (1 ∷ 1 ∷ 0 ∷ 5 ∷ [])) ∷
-    -- K3 chain 1→2, connect 2 to 2: 13
+    -- K3 the second link of a pair cannot be connected to itself: 13, since it has a prev
     row (arena (0 ∷ 1 ∷ []) (2 ∷ 0 ∷ []) (5 ∷ 5 ∷ []) (11 ∷ 12 ∷ []) (2 ∷ 2 ∷ 0 ∷ 5 ∷ [])) (plain (Connect (pointer 2 5) (pointer 2 5)) ∷ []) ((13 ∷ []) ∷ []) (arena (0 ∷ 1 ∷ []) (2 ∷ 0 ∷ []) (5 ∷ 5 ∷ []) (11 ∷ 12 ∷ []) (2 ∷ 2 ∷ 0 ∷ 5 ∷ [])) ∷
-    -- K4 1→2→3, exchange 1 and 2: 1→3, and 2 closed alone
+    -- K4 in a chain of three the nexts of 1 and 2 are exchanged: 3 now follows 1, and 2 is a closed chain of one
     row three (plain (ExchangeNext (pointer 1 5) (pointer 2 5)) ∷ []) ((0 ∷ []) ∷ []) (arena (0 ∷ 2 ∷ 1 ∷ []) (3 ∷ 2 ∷ 0 ∷ []) (5 ∷ 5 ∷ 5 ∷ []) (11 ∷ 12 ∷ 13 ∷ []) (3 ∷ 3 ∷ 0 ∷ 5 ∷ [])) ∷
-    -- K5 exchange 1 with 1 there: unchanged
+    -- K5 in the same chain the next of 1 is exchanged with itself, and nothing changes
     row three (plain (ExchangeNext (pointer 1 5) (pointer 1 5)) ∷ []) ((0 ∷ []) ∷ []) three ∷
-    -- K6 remove 3 of three: stack 2, no root
+    -- K6 the third of three is removed: it is popped, two slots are left, and there is no root
     row three (plain (Remove (pointer 3 5)) ∷ []) ((0 ∷ 2 ∷ 0 ∷ 13 ∷ []) ∷ []) (arena (0 ∷ 1 ∷ 0 ∷ []) (2 ∷ 0 ∷ 0 ∷ []) (5 ∷ 5 ∷ 0 ∷ []) (11 ∷ 12 ∷ 0 ∷ []) (2 ∷ 2 ∷ 0 ∷ 6 ∷ [])) ∷
-    -- K7 remove 1, then 2 of three: root 2, pointing at 1, which points at itself
+    -- K7 the first and then the second of three are removed: the root is 2, it leads on to 1, and 1 ends the freelist
     row three (plain (Remove (pointer 1 5)) ∷ plain (Remove (pointer 2 5)) ∷ []) ((0 ∷ 0 ∷ 2 ∷ 11 ∷ []) ∷ (0 ∷ 0 ∷ 3 ∷ 12 ∷ []) ∷ []) (arena (0 ∷ 0 ∷ 0 ∷ []) (1 ∷ 1 ∷ 0 ∷ []) (0 ∷ 0 ∷ 5 ∷ []) (0 ∷ 0 ∷ 13 ∷ []) (3 ∷ 1 ∷ 2 ∷ 7 ∷ [])) ∷
-    -- K8 closed 1→2→1, remove 1: 2 closed alone
+    -- K8 one link of a closed pair is removed: the other one becomes a closed chain of one
     row closedPair (plain (Remove (pointer 1 5)) ∷ []) ((0 ∷ 2 ∷ 2 ∷ 11 ∷ []) ∷ []) (arena (0 ∷ 2 ∷ []) (1 ∷ 2 ∷ []) (0 ∷ 5 ∷ []) (0 ∷ 12 ∷ []) (2 ∷ 1 ∷ 1 ∷ 6 ∷ [])) ∷
-    -- K9 1→2→3, drain from 2: items 2 (1,3), 3 (1,0), 1 (0,0); stack 2, root 1→2→2; generation 8
+    -- K9 a drain that begins in the middle of three. Each item has the neighbours that are left when its turn comes; slots 1 and 2 stay, free
     row three (with (Drain (pointer 2 5)) (9 ∷ 9 ∷ 9 ∷ 9 ∷ 9 ∷ 9 ∷ 9 ∷ 9 ∷ 9 ∷ 9 ∷ 9 ∷ 9 ∷ 9 ∷ 9 ∷ 9 ∷ 9 ∷ []) ∷ []) ((0 ∷ 3 ∷ 0 ∷ 2 ∷ 5 ∷ 1 ∷ 3 ∷ 12 ∷ 3 ∷ 5 ∷ 1 ∷ 0 ∷ 13 ∷ 1 ∷ 5 ∷ 0 ∷ 0 ∷ 11 ∷ 9 ∷ []) ∷ []) (arena (0 ∷ 0 ∷ 0 ∷ []) (2 ∷ 2 ∷ 0 ∷ []) (0 ∷ 0 ∷ 0 ∷ []) (0 ∷ 0 ∷ 0 ∷ []) (2 ∷ 0 ∷ 1 ∷ 8 ∷ [])) ∷
-    -- K10 closed 1→2→1, walk from 2: 2, 1, none
+    -- K10 the walk round a closed pair answers each link once, then none
     row closedPair (plain (WalkStart (pointer 2 5)) ∷ with WalkStep (2 ∷ 2 ∷ 0 ∷ 2 ∷ []) ∷ with WalkStep (2 ∷ 1 ∷ 0 ∷ 1 ∷ []) ∷ with WalkStep (2 ∷ 0 ∷ 0 ∷ 0 ∷ []) ∷ []) ((0 ∷ 2 ∷ 2 ∷ 0 ∷ 2 ∷ []) ∷ (0 ∷ 2 ∷ 5 ∷ 2 ∷ 1 ∷ 0 ∷ 1 ∷ []) ∷ (0 ∷ 1 ∷ 5 ∷ 2 ∷ 0 ∷ 0 ∷ 0 ∷ []) ∷ (0 ∷ 0 ∷ 0 ∷ 2 ∷ 0 ∷ 0 ∷ 0 ∷ []) ∷ []) closedPair ∷
-    -- K11 1→5 and lone 2, 3, 4: where-from 1,5,3,4,2
+    -- K11 chain 1→5, the others lone: slots 1 to 5 came from 1, 5, 3, 4 and 2, so the chains are not in the order of their old lowest slots
     row (arena (0 ∷ 0 ∷ 0 ∷ 0 ∷ 1 ∷ []) (5 ∷ 0 ∷ 0 ∷ 0 ∷ 0 ∷ []) (5 ∷ 5 ∷ 5 ∷ 5 ∷ 5 ∷ []) (11 ∷ 12 ∷ 13 ∷ 14 ∷ 15 ∷ []) (5 ∷ 5 ∷ 0 ∷ 5 ∷ [])) (with (CompressCanonical false) (9 ∷ 9 ∷ 9 ∷ 9 ∷ 9 ∷ []) ∷ []) ((0 ∷ 1 ∷ 5 ∷ 3 ∷ 4 ∷ 2 ∷ []) ∷ []) (arena (0 ∷ 1 ∷ 0 ∷ 0 ∷ 0 ∷ []) (2 ∷ 0 ∷ 0 ∷ 0 ∷ 0 ∷ []) (6 ∷ 6 ∷ 6 ∷ 6 ∷ 6 ∷ []) (11 ∷ 15 ∷ 13 ∷ 14 ∷ 12 ∷ []) (5 ∷ 5 ∷ 0 ∷ 6 ∷ [])) ∷
-    -- K12 two free slots pointing at each other, root 1, no links: 9
+    -- K12 a freelist of two slots that lead to each other has no end: 9
     row (arena (0 ∷ 0 ∷ []) (2 ∷ 1 ∷ []) (0 ∷ 0 ∷ []) (0 ∷ 0 ∷ []) (2 ∷ 0 ∷ 1 ∷ 5 ∷ [])) (plain Check ∷ []) ((9 ∷ []) ∷ []) (arena (0 ∷ 0 ∷ []) (2 ∷ 1 ∷ []) (0 ∷ 0 ∷ []) (0 ∷ 0 ∷ []) (2 ∷ 0 ∷ 1 ∷ 5 ∷ [])) ∷
     []
 
@@ -87,38 +88,38 @@ pub marked-cases : map computed rows ≡ map expected rows
 unfolding rows at put firstOr lastOr slotsFrom keep written settled allocated linkSlots freeSlots misshapen freelistWalk namesBack neighboursFine allFine countsOf verdict stale getLink getLinkNoGen neighbors areNeighbors walkStart onward step walkStep walked connect breakPrev breakNext exchangeNext nextGeneration overflows setGeneration incGeneration joined vacated removed remove removedAll drainItems overflowItem drain threaded canonicalizeFreelist apply applied answersOf run raises compressGeneration compressNumber place relocate movesOf compressWith exchanged exchangeWords exchangeLinks exchangeSlots putAtI lowestFrom startOf layChain layChains laidOut canonicalArena compressCanonical accepted replyTo repliesTo arenaAfter
 marked-cases = refl
 
--- Corners: the limits, each refusal of a call, and the readings of docs/DECISIONS.md, in the same form
+-- Corners in the same form: the limits, the refusals of the calls, and what docs/DECISIONS.md has decided
 unfoldable pub corners : List Row
 corners =
     -- a removal at the largest generation overflows, and the work is done
     row (arena (0 ∷ []) (0 ∷ []) (5 ∷ []) (11 ∷ []) (1 ∷ 1 ∷ 0 ∷ 4294967295 ∷ [])) (plain (Remove (pointer 1 5)) ∷ []) ((100 ∷ 0 ∷ 0 ∷ 11 ∷ []) ∷ []) (arena (0 ∷ []) (0 ∷ []) (0 ∷ []) (0 ∷ []) (0 ∷ 0 ∷ 0 ∷ 2 ∷ [])) ∷
-    -- so does inc_generation; set_generation refuses 1 and takes 2
+    -- inc_generation overflows too; set_generation refuses 1 and takes 2
     row (arena (0 ∷ []) (0 ∷ []) (5 ∷ []) (11 ∷ []) (1 ∷ 1 ∷ 0 ∷ 4294967295 ∷ [])) (plain IncGeneration ∷ plain (SetGeneration 1) ∷ plain (SetGeneration 2) ∷ []) ((100 ∷ []) ∷ (15 ∷ []) ∷ (0 ∷ []) ∷ []) (arena (0 ∷ []) (0 ∷ []) (5 ∷ []) (11 ∷ []) (1 ∷ 1 ∷ 0 ∷ 2 ∷ [])) ∷
-    -- exchange of a pointer with itself and without a next is refused
+    -- a link without a next, exchanged with itself: 13
     row three (plain (ExchangeNext (pointer 3 5) (pointer 3 5)) ∷ []) ((13 ∷ []) ∷ []) three ∷
-    -- break prev, then next of what is left, then a stale and a lone one
+    -- break prev, then next of what is left; then a lone link and a stale pointer are refused
     row three (plain (BreakPrev (pointer 2 5)) ∷ plain (BreakNext (pointer 2 5)) ∷ plain (BreakNext (pointer 2 5)) ∷ plain (BreakPrev (pointer 2 6)) ∷ []) ((0 ∷ []) ∷ (0 ∷ []) ∷ (13 ∷ []) ∷ (12 ∷ []) ∷ []) (arena (0 ∷ 0 ∷ 0 ∷ []) (0 ∷ 0 ∷ 0 ∷ []) (5 ∷ 5 ∷ 5 ∷ []) (11 ∷ 12 ∷ 13 ∷ []) (3 ∷ 3 ∷ 0 ∷ 5 ∷ [])) ∷
-    -- reading the middle of a chain, a stale pointer, and neighbours
+    -- reading the middle, the first and the last link of a chain, a stale pointer, and neighbours
     row three (plain (GetLink (pointer 2 5)) ∷ plain (GetLink (pointer 1 5)) ∷ plain (GetLinkNoGen (pointer 3 5)) ∷ plain (GetLink (pointer 4 5)) ∷ plain (AreNeighbors (pointer 1 5) (pointer 2 5)) ∷ plain (AreNeighbors (pointer 2 5) (pointer 1 5)) ∷ plain (AreNeighbors (pointer 1 5) (pointer 2 6)) ∷ []) ((0 ∷ 1 ∷ 5 ∷ 3 ∷ 5 ∷ 12 ∷ []) ∷ (0 ∷ 0 ∷ 0 ∷ 2 ∷ 5 ∷ 11 ∷ []) ∷ (0 ∷ 2 ∷ 0 ∷ 13 ∷ []) ∷ (12 ∷ 0 ∷ 0 ∷ 0 ∷ 0 ∷ 0 ∷ []) ∷ (0 ∷ 1 ∷ []) ∷ (0 ∷ 0 ∷ []) ∷ (0 ∷ 0 ∷ []) ∷ []) three ∷
-    -- a walk from the middle turns at the end, and ends at the start
+    -- a walk from the middle turns at the end of the chain, and ends with its first link
     row three (plain (WalkStart (pointer 2 5)) ∷ with WalkStep (2 ∷ 2 ∷ 0 ∷ 3 ∷ []) ∷ with WalkStep (2 ∷ 3 ∷ 0 ∷ 2 ∷ []) ∷ with WalkStep (2 ∷ 1 ∷ 1 ∷ 1 ∷ []) ∷ with WalkStep (2 ∷ 0 ∷ 1 ∷ 0 ∷ []) ∷ []) ((0 ∷ 2 ∷ 2 ∷ 0 ∷ 3 ∷ []) ∷ (0 ∷ 2 ∷ 5 ∷ 2 ∷ 3 ∷ 0 ∷ 2 ∷ []) ∷ (0 ∷ 3 ∷ 5 ∷ 2 ∷ 1 ∷ 1 ∷ 1 ∷ []) ∷ (0 ∷ 1 ∷ 5 ∷ 2 ∷ 0 ∷ 1 ∷ 0 ∷ []) ∷ (0 ∷ 0 ∷ 0 ∷ 2 ∷ 0 ∷ 1 ∷ 0 ∷ []) ∷ []) three ∷
-    -- a step past the stack ends, and one in a refused arena hands its state back
+    -- a position above the stack: none, and the walk is over. With no advance left a step changes nothing
     row (arena (0 ∷ []) (0 ∷ []) (5 ∷ []) (11 ∷ []) (1 ∷ 1 ∷ 0 ∷ 5 ∷ [])) (with WalkStep (7 ∷ 70000 ∷ 3 ∷ 9 ∷ []) ∷ with WalkStep (1 ∷ 1 ∷ 0 ∷ 0 ∷ []) ∷ []) ((0 ∷ 0 ∷ 0 ∷ 7 ∷ 0 ∷ 3 ∷ 8 ∷ []) ∷ (0 ∷ 0 ∷ 0 ∷ 1 ∷ 1 ∷ 0 ∷ 0 ∷ []) ∷ []) (arena (0 ∷ []) (0 ∷ []) (5 ∷ []) (11 ∷ []) (1 ∷ 1 ∷ 0 ∷ 5 ∷ [])) ∷
-    -- a link whose next does not name it back
+    -- a link whose next does not name it in turn: every call is refused with 11, and a walk step hands its state back
     row (arena (0 ∷ 0 ∷ []) (2 ∷ 0 ∷ []) (5 ∷ 5 ∷ []) (11 ∷ 12 ∷ []) (2 ∷ 2 ∷ 0 ∷ 5 ∷ [])) (plain Check ∷ with WalkStep (1 ∷ 1 ∷ 0 ∷ 2 ∷ []) ∷ plain (GetLinkNoGen (pointer 1 5)) ∷ []) ((11 ∷ []) ∷ (11 ∷ 0 ∷ 0 ∷ 1 ∷ 1 ∷ 0 ∷ 2 ∷ []) ∷ (11 ∷ 0 ∷ 0 ∷ 0 ∷ []) ∷ []) (arena (0 ∷ 0 ∷ []) (2 ∷ 0 ∷ []) (5 ∷ 5 ∷ []) (11 ∷ 12 ∷ []) (2 ∷ 2 ∷ 0 ∷ 5 ∷ [])) ∷
-    -- the freelist in order: free end slots are popped, the words of other free slots stay
+    -- the freelist in order: slots 4 and 5 are popped, of the free slots 1 and 2 only the next words are written
     row (arena (7 ∷ 8 ∷ 0 ∷ 9 ∷ 6 ∷ []) (5 ∷ 2 ∷ 0 ∷ 1 ∷ 2 ∷ []) (0 ∷ 0 ∷ 5 ∷ 0 ∷ 0 ∷ []) (21 ∷ 22 ∷ 13 ∷ 24 ∷ 25 ∷ []) (5 ∷ 1 ∷ 4 ∷ 5 ∷ [])) (plain Check ∷ plain CanonicalizeFreelist ∷ plain Check ∷ []) ((0 ∷ []) ∷ (0 ∷ []) ∷ (0 ∷ []) ∷ []) (arena (7 ∷ 8 ∷ 0 ∷ 0 ∷ 0 ∷ []) (2 ∷ 2 ∷ 0 ∷ 0 ∷ 0 ∷ []) (0 ∷ 0 ∷ 5 ∷ 0 ∷ 0 ∷ []) (21 ∷ 22 ∷ 13 ∷ 0 ∷ 0 ∷ []) (3 ∷ 1 ∷ 1 ∷ 5 ∷ [])) ∷
-    -- a run: 16 for words that are no multiple of five, 14 for too few answers
+    -- a run: 16 for words that are no whole commands, 14 for too few answer words
     row three (with (Run (1 ∷ 2 ∷ 3 ∷ [])) (9 ∷ []) ∷ with (Run (9 ∷ 0 ∷ 0 ∷ 0 ∷ 0 ∷ 9 ∷ 0 ∷ 0 ∷ 0 ∷ 0 ∷ [])) (9 ∷ []) ∷ []) ((16 ∷ 9 ∷ []) ∷ (14 ∷ 9 ∷ []) ∷ []) three ∷
-    -- a run: exchange, a code that is none, a stale connect, a connect that is taken, a removal that overflows
+    -- a run: an exchange, an unknown code, a stale connect, a connect with a next in the way, a removal that overflows
     row (arena (0 ∷ 1 ∷ 2 ∷ []) (2 ∷ 3 ∷ 0 ∷ []) (5 ∷ 5 ∷ 5 ∷ []) (11 ∷ 12 ∷ 13 ∷ []) (3 ∷ 3 ∷ 0 ∷ 4294967295 ∷ [])) (with (Run (4 ∷ 1 ∷ 5 ∷ 2 ∷ 5 ∷ 9 ∷ 0 ∷ 0 ∷ 0 ∷ 0 ∷ 1 ∷ 70000 ∷ 5 ∷ 1 ∷ 5 ∷ 1 ∷ 2 ∷ 5 ∷ 2 ∷ 5 ∷ 5 ∷ 3 ∷ 5 ∷ 0 ∷ 0 ∷ [])) (9 ∷ 9 ∷ 9 ∷ 9 ∷ 9 ∷ 9 ∷ []) ∷ []) ((0 ∷ 0 ∷ 16 ∷ 12 ∷ 13 ∷ 100 ∷ 9 ∷ []) ∷ []) (arena (0 ∷ 2 ∷ 0 ∷ []) (0 ∷ 2 ∷ 0 ∷ []) (5 ∷ 5 ∷ 0 ∷ []) (11 ∷ 12 ∷ 0 ∷ []) (2 ∷ 2 ∷ 0 ∷ 2 ∷ [])) ∷
     -- a drain that overflows at its second item
     row (arena (0 ∷ 1 ∷ 2 ∷ []) (2 ∷ 3 ∷ 0 ∷ []) (5 ∷ 5 ∷ 5 ∷ []) (11 ∷ 12 ∷ 13 ∷ []) (3 ∷ 3 ∷ 0 ∷ 4294967294 ∷ [])) (with (Drain (pointer 1 5)) (9 ∷ 9 ∷ 9 ∷ 9 ∷ 9 ∷ 9 ∷ 9 ∷ 9 ∷ 9 ∷ 9 ∷ 9 ∷ 9 ∷ 9 ∷ 9 ∷ 9 ∷ []) ∷ []) ((0 ∷ 3 ∷ 2 ∷ 1 ∷ 5 ∷ 0 ∷ 2 ∷ 11 ∷ 2 ∷ 5 ∷ 0 ∷ 3 ∷ 12 ∷ 3 ∷ 5 ∷ 0 ∷ 0 ∷ 13 ∷ []) ∷ []) (arena (0 ∷ 0 ∷ 0 ∷ []) (1 ∷ 1 ∷ 0 ∷ []) (0 ∷ 0 ∷ 0 ∷ []) (0 ∷ 0 ∷ 0 ∷ []) (2 ∷ 0 ∷ 2 ∷ 3 ∷ [])) ∷
-    -- compress_with: links 2 and 4 of a closed pair go to slots 1 and 2; a report that is too short
+    -- compress_with: a report that is too short; then the closed pair in slots 2 and 4 goes to slots 1 and 2
     row (arena (0 ∷ 4 ∷ 0 ∷ 2 ∷ []) (3 ∷ 4 ∷ 3 ∷ 2 ∷ []) (0 ∷ 5 ∷ 0 ∷ 6 ∷ []) (0 ∷ 12 ∷ 0 ∷ 14 ∷ []) (4 ∷ 2 ∷ 1 ∷ 5 ∷ [])) (with (CompressWith false) (9 ∷ 9 ∷ 9 ∷ 9 ∷ 9 ∷ 9 ∷ 9 ∷ []) ∷ with (CompressWith false) (9 ∷ 9 ∷ 9 ∷ 9 ∷ 9 ∷ 9 ∷ 9 ∷ 9 ∷ 9 ∷ []) ∷ []) ((14 ∷ 9 ∷ 9 ∷ 9 ∷ 9 ∷ 9 ∷ 9 ∷ 9 ∷ []) ∷ (0 ∷ 2 ∷ 5 ∷ 1 ∷ 6 ∷ 4 ∷ 6 ∷ 2 ∷ 6 ∷ 9 ∷ []) ∷ []) (arena (2 ∷ 1 ∷ 0 ∷ 0 ∷ []) (2 ∷ 1 ∷ 0 ∷ 0 ∷ []) (6 ∷ 6 ∷ 0 ∷ 0 ∷ []) (12 ∷ 14 ∷ 0 ∷ 0 ∷ []) (2 ∷ 2 ∷ 0 ∷ 6 ∷ [])) ∷
-    -- canonical compression from the largest generation overflows; with reset it does not; a where-from column of another length is refused
+    -- canonical compression: a where-from column that is too short is refused; at the largest generation it overflows; a reset is no overflow
     row (arena (0 ∷ 4 ∷ 0 ∷ 2 ∷ []) (3 ∷ 4 ∷ 3 ∷ 2 ∷ []) (0 ∷ 5 ∷ 0 ∷ 6 ∷ []) (0 ∷ 12 ∷ 0 ∷ 14 ∷ []) (4 ∷ 2 ∷ 1 ∷ 4294967295 ∷ [])) (with (CompressCanonical false) (9 ∷ 9 ∷ 9 ∷ []) ∷ with (CompressCanonical false) (9 ∷ 9 ∷ 9 ∷ 9 ∷ []) ∷ with (CompressCanonical true) (9 ∷ 9 ∷ 9 ∷ 9 ∷ []) ∷ []) ((14 ∷ 9 ∷ 9 ∷ 9 ∷ []) ∷ (100 ∷ 2 ∷ 4 ∷ 0 ∷ 0 ∷ []) ∷ (0 ∷ 1 ∷ 2 ∷ 9 ∷ 9 ∷ []) ∷ []) (arena (2 ∷ 1 ∷ 0 ∷ 0 ∷ []) (2 ∷ 1 ∷ 0 ∷ 0 ∷ []) (2 ∷ 2 ∷ 0 ∷ 0 ∷ []) (12 ∷ 14 ∷ 0 ∷ 0 ∷ []) (2 ∷ 2 ∷ 0 ∷ 2 ∷ [])) ∷
-    -- words past the old stack length stay, in the columns, in the where-from column and in the report
+    -- words above the old stack stay, in the columns and in the where-from column, and so do the words of a report that are not needed
     row (arena (3 ∷ 0 ∷ 7 ∷ []) (1 ∷ 0 ∷ 8 ∷ []) (0 ∷ 5 ∷ 9 ∷ []) (4 ∷ 12 ∷ 6 ∷ []) (2 ∷ 1 ∷ 1 ∷ 5 ∷ [])) (with (CompressCanonical false) (9 ∷ 9 ∷ 9 ∷ []) ∷ []) ((0 ∷ 2 ∷ 0 ∷ 9 ∷ []) ∷ []) (arena (0 ∷ 0 ∷ 7 ∷ []) (0 ∷ 0 ∷ 8 ∷ []) (6 ∷ 0 ∷ 9 ∷ []) (12 ∷ 0 ∷ 6 ∷ []) (1 ∷ 1 ∷ 0 ∷ 6 ∷ [])) ∷
     row (arena (3 ∷ 0 ∷ 7 ∷ []) (1 ∷ 0 ∷ 8 ∷ []) (0 ∷ 5 ∷ 9 ∷ []) (4 ∷ 12 ∷ 6 ∷ []) (2 ∷ 1 ∷ 1 ∷ 5 ∷ [])) (with (CompressWith true) (9 ∷ 9 ∷ 9 ∷ 9 ∷ 9 ∷ []) ∷ []) ((0 ∷ 2 ∷ 5 ∷ 1 ∷ 2 ∷ 9 ∷ []) ∷ []) (arena (0 ∷ 0 ∷ 7 ∷ []) (0 ∷ 0 ∷ 8 ∷ []) (2 ∷ 0 ∷ 9 ∷ []) (12 ∷ 0 ∷ 6 ∷ []) (1 ∷ 1 ∷ 0 ∷ 2 ∷ [])) ∷
     -- no links: the generation stays without reset and becomes 2 with it, and the free slots go

@@ -1,4 +1,4 @@
--- The check of an arena (`_check_invariants`): refusals 1 to 11 in their order, and what a well formed arena is.
+-- The check of an arena (`_check_invariants`): rules 1 to 11 in their order (REFERENCE, Check), and what a well-formed arena is.
 use Prim.Native.Nat.{ℕ, zero, suc, _+_, _≤_}
 use mathlib.Core.Path.{_≡_}
 use mathlib.Core.Bool.{Bool, true, false, cond, not, _&&_, _||_}
@@ -9,7 +9,7 @@ use Rattle.definitions.specs.Columns.{at, count, firstOr, lastOr}
 use Rattle.definitions.specs.Arena.{Arena, capacity, headerWords, stackLength, linkCount, root, current, allocated, linkSlots, freeSlots, isLink}
 use Rattle.definitions.specs.Chains.{Linked}
 
--- '1, columns of unequal length or over 65,535', the limit; and a header slice of another length
+-- 1: the header has not four words, prev is longer than the limit, or another column is not as long as prev (REFERENCE, Check)
 unfoldable pub misshapen : ℕ → Arena → Bool
 misshapen limit a =
     not (eqb (length (a .header)) headerWords)
@@ -18,8 +18,8 @@ misshapen limit a =
     || not (eqb (length (a .generation)) (capacity a))
     || not (eqb (length (a .payload)) (capacity a))
 
--- 'Then the freelist walk, per visit: 6, pointer 0; 7, pointer past the stack; 8, an allocated slot; 9, stack length + 2 visits without
--- a self-pointing slot. 10, fewer visited than free.' The walk is at slot s with so many visits left, after so many visited
+-- the freelist followed from slot s, with so many visits left and so many made. A visit answers 6 for slot 0, 7 above the stack, 8 for a link; a slot
+-- that points at itself ends the list, with 10 if fewer slots were visited than are free; no visit left: 9 (REFERENCE, Check)
 unfoldable pub freelistWalk : List ℕ → List ℕ → ℕ → ℕ → ℕ → ℕ → ℕ
 freelistWalk ns gs n zero s visited = 9
 freelistWalk ns gs n (suc left) s visited =
@@ -29,21 +29,21 @@ freelistWalk ns gs n (suc left) s visited =
     (cond (not (eqb (at gs s) 0)) 8
     (cond (eqb (at ns s) s) (cond (ltb (visited + 1) (length (freeSlots gs n))) 10 0) rest)))
 
--- a neighbour s of slot x is none, or is a link that names x back in the column back
+-- the neighbour s of slot x is 0, or a link whose word in the column back is x
 unfoldable pub namesBack : List ℕ → List ℕ → ℕ → ℕ → ℕ → Bool
 namesBack back gs n x s = eqb s 0 || (allocated gs n s && eqb (at back s) x)
 
--- '11, a link whose prev or next is past the stack, free, or doesn't name it back': whether slot x is no such link
+-- rule 11 at slot x: if x is a link, its prev is 0 or a link whose next is x, and its next is 0 or a link whose prev is x (REFERENCE, Check)
 unfoldable pub neighboursFine : List ℕ → List ℕ → List ℕ → ℕ → ℕ → Bool
 neighboursFine ps ns gs n x = not (allocated gs n x) || (namesBack ns gs n x (at ps x) && namesBack ps gs n x (at ns x))
 
--- whether each of the slots 1 to k is fine
+-- whether rule 11 holds at each of the slots 1 to k
 unfoldable pub allFine : List ℕ → List ℕ → List ℕ → ℕ → ℕ → Bool
 allFine ps ns gs n zero = true
 allFine ps ns gs n (suc k) = neighboursFine ps ns gs n (suc k) && allFine ps ns gs n k
 
--- '4, link count is not the number of allocated slots. 5, a root although no slot is free, or none although one is.' Then 6 to 10; 0 where none
--- of them refuses. m is the link count, s the root
+-- rules 4 to 10, 0 if none fails: m, the link count, is the number of links, and s, the root, is 0 exactly if no slot is free; if there is a root,
+-- the freelist is followed from it for at most stack length + 2 visits (REFERENCE, Check)
 unfoldable pub countsOf : List ℕ → List ℕ → ℕ → ℕ → ℕ → ℕ
 countsOf ns gs n m s =
     let free = length (freeSlots gs n) in
@@ -52,7 +52,7 @@ countsOf ns gs n m s =
     (cond (eqb s 0) (cond (eqb free 0) 0 5)
     (cond (eqb free 0) 5 walked))
 
--- the verdict: the first refusal, 1 to 11, or 0 where the arena passes the check
+-- the check: the number of the first rule that fails, 0 if none does (REFERENCE, Check)
 unfoldable pub verdict : ℕ → Arena → ℕ
 verdict limit a =
     let counts = countsOf (a .next) (a .generation) (stackLength a) (linkCount a) (root a) in
@@ -67,23 +67,24 @@ verdict limit a =
 abbrev pub FailsAt : Arena → ℕ → Type 0
 FailsAt a s = neighboursFine (a .prev) (a .next) (a .generation) (stackLength a) s ≡ false
 
--- '11 also names one such slot, any one': what stands in the answer's word `broken`, 0 but for 11
+-- the word `broken` of an answer: with 11 a link at which the rule fails, whichever, and in every other case 0 (REFERENCE, Replies)
 pub record Names (limit : ℕ) (a : Arena) (broken : ℕ) : Type 0 where
   pub one : verdict limit a ≡ 11 → FailsAt a broken
   pub none : (verdict limit a ≡ 11 → ⊥) → broken ≡ 0
 
--- one freelist: fs holds each free slot once and no other, from the root on each next names the following slot, and the last names itself
+-- fs is the freelist: it begins with the root, next leads from each slot to the one after it and from the last to itself, and fs has every free slot
+-- once and nothing else (REFERENCE, Well-formed arenas)
 pub record Freelist (a : Arena) (fs : List ℕ) : Type 0 where
   pub starts : firstOr 0 fs ≡ root a
   pub linked : Linked (at (a .next)) fs (lastOr 0 fs)
   pub free : (s : ℕ) → 1 ≤ count s fs → (1 ≤ s) × (s ≤ stackLength a) × (at (a .generation) s ≡ 0)
   pub once : (s : ℕ) → 1 ≤ s → s ≤ stackLength a → at (a .generation) s ≡ 0 → count s fs ≡ 1
 
--- a neighbour s of the link x that is there is a link, and names x back
+-- s, if it is not 0, is a link whose word in the column back is x
 abbrev pub Neighbour : Arena → List ℕ → ℕ → ℕ → Type 0
 Neighbour a back x s = (s ≡ 0 → ⊥) → (isLink a s ≡ true) × (at back s ≡ x)
 
--- what an arena that passes the check is, as plain facts
+-- what is true of exactly those arenas that the check passes (REFERENCE, Well-formed arenas)
 pub record WellFormed (limit : ℕ) (a : Arena) : Type 0 where
   pub header : length (a .header) ≡ headerWords
   pub small : capacity a ≤ limit
@@ -97,8 +98,8 @@ pub record WellFormed (limit : ℕ) (a : Arena) : Type 0 where
   pub prev : (x : ℕ) → isLink a x ≡ true → Neighbour a (a .next) x (at (a .prev) x)
   pub next : (x : ℕ) → isLink a x ≡ true → Neighbour a (a .prev) x (at (a .next) x)
 
--- the words that document 01 reads of an arena: of all slots up to the stack length generation and next, of links prev; 'words past it are
--- not read', and of a free slot 'its other words are not read'
+-- b has the words that the check reads of a: the header, the lengths of all columns, generation and next of the whole stack, prev of its links
+-- (REFERENCE, Check)
 pub record SameRead (a b : Arena) : Type 0 where
   pub header : a .header ≡ b .header
   pub prev-length : length (a .prev) ≡ length (b .prev)

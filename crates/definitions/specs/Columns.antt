@@ -1,16 +1,16 @@
--- Words of a column by slot, and lists of slots. Slot s is at place s−1 of a column.
+-- Words of a column by slot, and lists of slots. The word of slot s has index s − 1 (REFERENCE, Arena).
 use Prim.Native.Nat.{ℕ, zero, suc, _+_, _-_}
 use mathlib.Core.Bool.{Bool, true, false, cond}
 use mathlib.Core.List.{List, [], _∷_, _++_}
 use lib.ListN.{length, getD, set, drop, replicate}
 use lib.Dec.{eqb}
 
--- the word of column xs at slot s; slot 0 has none and reads 0
+-- the word of column xs at slot s; 0 for slot 0 and for a slot that the column does not reach
 unfoldable pub at : List ℕ → ℕ → ℕ
 at xs zero = 0
 at xs (suc i) = getD xs i 0
 
--- column xs with v at slot s; slot 0 is no slot, and nothing is written there
+-- column xs with v at slot s; unchanged for slot 0 and for a slot that the column does not reach
 unfoldable pub put : List ℕ → ℕ → ℕ → List ℕ
 put xs zero v = xs
 put xs (suc i) v = set xs i v
@@ -39,10 +39,10 @@ unfoldable pub keep : (ℕ → Bool) → List ℕ → List ℕ
 keep test [] = []
 keep test (x ∷ xs) = cond (test x) (x ∷ keep test xs) (keep test xs)
 
--- a lent slice with the words ws at its front: 'Words of any report or answer slice past those named are unchanged.'
+-- a lent slice that is filled from its front with the words ws; the words after them stay (REFERENCE, Replies)
 unfoldable pub written : List ℕ → List ℕ → List ℕ
 written ws old = ws ++ drop (length ws) old
 
--- a column whose first slots get the words ws, the slots after them up to the old stack length n get 0, and 'the rest is unchanged'
+-- a column that gets the words ws from slot 1 on and 0 in the slots after them up to n, the old stack length; the words above n stay
 unfoldable pub settled : ℕ → List ℕ → List ℕ → List ℕ
 settled n ws old = ws ++ (replicate (n - length ws) 0 ++ drop n old)

@@ -1,4 +1,5 @@
--- Demand 3, as one statement about the very definition that the exported call cites (Calls.replyTo at CompressCanonical).
+-- Demand 3, as one statement about the very definition that the exported call cites, Calls.replyTo at CompressCanonical
+-- (REFERENCE, What canonical compression keeps).
 use Prim.Native.Nat.{ℕ, zero, suc, _+_, _≤_, _<_}
 use mathlib.Core.Path.{_≡_}
 use mathlib.Core.Logic.{_⊎_, _↔_}
@@ -12,7 +13,7 @@ use Rattle.definitions.specs.Check.{verdict}
 use Rattle.definitions.specs.Reply.{Reply}
 use Rattle.definitions.specs.Calls.{CompressCanonical, replyTo, Made, repliesTo, arenaAfter}
 
--- accepted: 0, or 100 where the generation overflowed
+-- a call was done: 0, or 100 where the generation overflowed
 abbrev pub Accepted : Reply → Type 0
 Accepted r = (r .number ≡ 0) ⊎ (r .number ≡ 100)
 
@@ -21,13 +22,13 @@ unfoldable pub Every : (Reply → Type 0) → List Reply → Type 0
 Every Q [] = Unit {0}
 Every Q (r ∷ rs) = Q r × Every Q rs
 
--- prev, next and payload of slots 1 to n agree
+-- slots 1 to n have the same prev, next and payload words in both arenas
 pub record Agree (a b : Arena) (n : ℕ) : Type 0 where
   pub prev : (s : ℕ) → 1 ≤ s → s ≤ n → at (a .prev) s ≡ at (b .prev) s
   pub next : (s : ℕ) → 1 ≤ s → s ≤ n → at (a .next) s ≡ at (b .next) s
   pub payload : (s : ℕ) → 1 ≤ s → s ≤ n → at (a .payload) s ≡ at (b .payload) s
 
--- a further canonical compression, 'with a where-from column of any length'
+-- a canonical compression: its reset, and a where-from column, which may be of any length
 pub record Further : Type 0 where
   pub reset : Bool
   pub whereFrom : List ℕ
@@ -35,7 +36,7 @@ pub record Further : Type 0 where
 abbrev pub made : Further → Made
 made f = record { call = CompressCanonical (f .reset); hands = f .whereFrom }
 
--- a chain of the old arena lies on the slots from s on, in next order, each next being the following slot
+-- an old chain has the slots from s on, one after the other, each next being the following slot; read where they came from, they are the chain
 pub record LiesFrom (b : Arena) (w : List ℕ) (n : ℕ) (c : Chain) (s : ℕ) : Type 0 where
   pub some : 1 ≤ s
   pub within : s + length (c .members) ≤ suc n
@@ -46,15 +47,15 @@ module _ (limit top : ℕ) where
   abbrev pub compress : Further → Arena → Reply
   compress f a = replyTo limit top (CompressCanonical (f .reset)) a (f .whereFrom)
 
-  -- 'Compressed means that canonical compression, as this paper defines it, refused nothing and left the words so defined': a was compressed
-  -- to b, with the where-from column col as it was left
+  -- a was canonically compressed to b and not refused, and its where-from column was left as col
   pub record Compressed (a b : Arena) (col : List ℕ) : Type 0 where
     pub call : Further
     pub accepted : Accepted (compress call a)
     pub left : compress call a .arena ≡ b
     pub whereFrom : compress call a .back ≡ col
 
-  -- of one compression; n is the link count, w the first n places of the where-from column, ps the pieces
+  -- what one compression keeps. n is the link count, w the first n words of the where-from column, ps the pieces. Filled: stack, links, root, fills.
+  -- Renaming: renaming. Consecutive: consecutive. Pieces: chains, ends. And every: each old link is on one chain and on one only
   pub record OfOne (a b : Arena) (w : List ℕ) (n : ℕ) (ps : List Chain) : Type 0 where
     pub stack : stackLength b ≡ n
     pub links : linkCount b ≡ n
@@ -66,8 +67,8 @@ module _ (limit top : ℕ) where
     pub ends : (k : ℕ) → k < length ps → nth ps k .kind ≡ opened → at (b .next) (lastOr 0 (nth ps k .members)) ≡ 0
     pub every : (s : ℕ) → isLink a s ≡ true → OnOneChain a s
 
-  -- 'No link has moved if stack length, link count, root, and prev, next and payload of slots 1 to n are as the first one left them, and places 0
-  -- to n−1 of each accepted call's where-from column read 1 to n when it answers.'
+  -- after the calls no link has moved: the first three words of the header and all words but the generations of slots 1 to n are as in b, and each
+  -- call that was done has left 1, 2, .., n at the front of its where-from column
   pub record Unmoved (b : Arena) (calls : List Made) (n : ℕ) : Type 0 where
     pub stack : stackLength (arenaAfter limit top calls b) ≡ stackLength b
     pub links : linkCount (arenaAfter limit top calls b) ≡ linkCount b
@@ -75,8 +76,10 @@ module _ (limit top : ℕ) where
     pub words : Agree (arenaAfter limit top calls b) b n
     pub columns : Every (λ r. Accepted r → take n (r .back) ≡ slotsFrom 1 n) (repliesTo limit top calls b)
 
+  -- demand 3, in five fields. accepted: when a compression is done. one: what it keeps. listings: any two listings of the old chains pair up. same:
+  -- equal words mean equal chains of payloads. unmoved: further compressions, done or refused, move nothing
   pub record Demand3 : Type 0 where
-    -- an arena that passes the check is compressed, with or without reset
+    -- where the check passes and the where-from column has the length of the columns, with and without reset
     pub accepted : (a : Arena) (f : Further) → verdict limit a ≡ 0 → length (f .whereFrom) ≡ capacity a → Accepted (compress f a)
     pub one : (a b : Arena) (col : List ℕ) → Compressed a b col → OfOne a b (take (linkCount a) col) (linkCount a) (pieces (at (b .next)) (linkCount a))
     pub listings : (a b : Arena) (col : List ℕ) → Compressed a b col → (cs ds : List Chain) → Listing a cs → Listing a ds → Paired Alike cs ds

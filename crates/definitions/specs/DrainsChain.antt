@@ -1,5 +1,5 @@
--- What a drain promises beyond its definition: it 'removes exactly the links of p's chain, no other link's payload or neighbour changes, and its report
--- lists them in walk order'.
+-- What a drain promises beyond its definition: it removes the links of one chain and no other, every other link stays as it is, and the report lists
+-- the removed ones in the order of the walk (REFERENCE, Drain).
 use Prim.Native.Nat.{ℕ, suc, _+_, _*_, _≤_, _<_}
 use mathlib.Core.Path.{_≡_}
 use mathlib.Core.Bool.{Bool, true, false}
@@ -32,20 +32,20 @@ pub record DrainsChain (limit top : ℕ) (a : Arena) (o : ℕ) (ss report : List
   -- it was not refused, and leaves an arena that passes the check
   pub done : r .number ≡ 0
   pub kept : WellFormed limit (r .arena)
-  -- 'exactly the links of p's chain': ss has what any listing of the chain that o is on has, each link once
+  -- ss has what any listing of the chain that o is on has, each link once
   pub exactly : (c : Chain) → IsChain a (c .kind) (c .members) → 1 ≤ count o (c .members) → (s : ℕ) → count s ss ≡ count s (c .members)
   pub once : (s : ℕ) → count s ss ≤ 1
-  -- they are removed; 'no other link's payload or neighbour changes'; and no slot becomes a link
+  -- they are removed; every other link stays as it is; and no slot becomes a link
   pub removed : (s : ℕ) → 1 ≤ count s ss → isLink (r .arena) s ≡ false
   pub others : (s : ℕ) → isLink a s ≡ true → count s ss ≡ 0 → Untouched a (r .arena) s
   pub none-new : (s : ℕ) → isLink (r .arena) s ≡ true → isLink a s ≡ true
-  -- 'its report lists them in walk order', each with its own generation and payload; further words of the report stay
+  -- the report lists them in the order of the walk, each with its own generation and payload; the words of the report after these stay
   pub order : WalkOrder a o ss
   pub items : getD (r .fields) 0 0 ≡ length ss
   pub listed : itemSlots (length ss) (r .back) ≡ ss
   pub generations : (k : ℕ) → k < length ss → getD (r .back) (5 * k + 1) 0 ≡ at (a .generation) (getD ss k 0)
   pub payloads : (k : ℕ) → k < length ss → getD (r .back) (5 * k + 4) 0 ≡ at (a .payload) (getD ss k 0)
   pub rest : drop (5 * length ss) (r .back) ≡ drop (5 * length ss) report
-  -- the item that is named, from 1, is the one whose removal overflows, so that there is one at most; 0 is named where there is none
+  -- the answer says which removal, counted from 1, overflows, so that one does at most; 0 where none does
   pub overflow : (k : ℕ) → k < length ss → overflowsAt top a ss k ≡ true → getD (r .fields) 1 0 ≡ suc k
   pub no-overflow : ((k : ℕ) → k < length ss → overflowsAt top a ss k ≡ false) → getD (r .fields) 1 0 ≡ 0

@@ -15,7 +15,8 @@ noNext a p = eqb (at (a .next) (p .slot)) 0
 abbrev pub noPrev : Arena → Pointer → Bool
 noPrev a p = eqb (at (a .prev) (p .slot)) 0
 
--- 'Connect: 12, p_prev stale; 13, it has a next; 12, p_next stale; 13, it has a prev.'
+-- q's link becomes the next of p's link. Refused, in this order: 12 p is stale, 13 its link has a next, 12 q is stale, 13 its link has a prev
+-- (REFERENCE, Connect)
 unfoldable pub connect : Arena → Pointer → Pointer → List ℕ → Reply
 connect a p q l =
     cond (stale a p) (refusal 12 0 a l)
@@ -24,7 +25,7 @@ connect a p q l =
     (cond (not (noPrev a q)) (refusal 13 0 a l)
     (reply 0 [] (withLinks a (put (a .prev) (q .slot) (p .slot)) (put (a .next) (p .slot) (q .slot))) l))))
 
--- 'Break prev, break next: 12; then 13, no such neighbour.'
+-- the link at p is parted from its prev, or from its next: 12 if p is stale, 13 if it has none on that side (REFERENCE, Break)
 unfoldable pub breakPrev : Arena → Pointer → List ℕ → Reply
 breakPrev a p l =
     cond (stale a p) (refusal 12 0 a l)
@@ -37,7 +38,7 @@ breakNext a p l =
     (cond (noNext a p) (refusal 13 0 a l)
     (reply 0 [] (withLinks a (put (a .prev) (at (a .next) (p .slot)) 0) (put (a .next) (p .slot) 0)) l))
 
--- 'Exchange: 12, either stale; 13, either without next.' Each gets the other's next
+-- each of two links gets the other one's next: 12 if p or q is stale, then 13 if one of them has no next (REFERENCE, Exchange)
 unfoldable pub exchangeNext : Arena → Pointer → Pointer → List ℕ → Reply
 exchangeNext a p q l =
     let d = at (a .next) (p .slot) in
@@ -46,21 +47,21 @@ exchangeNext a p q l =
     (cond (noNext a p || noNext a q) (refusal 13 0 a l)
     (reply 0 [] (withLinks a (put (put (a .prev) d (q .slot)) e (p .slot)) (put (put (a .next) (p .slot) e) (q .slot) d)) l))
 
--- '4,294,967,295 is followed by 2, reported as overflow': top is the largest generation
+-- the generation after g, and whether that step overflows; top is the largest generation, and 2 comes after it (REFERENCE, Pointers and generations)
 unfoldable pub nextGeneration : ℕ → ℕ → ℕ
 nextGeneration top g = cond (eqb g top) 2 (g + 1)
 
 unfoldable pub overflows : ℕ → ℕ → Bool
 overflows top g = eqb g top
 
--- 0 done, 100 done with generation overflow
+-- the number of a call that was done: 100 if the generation overflowed, else 0
 abbrev pub doneNumber : Bool → ℕ
 doneNumber over = cond over 100 0
 
--- '`set_generation`: 15, below 2.'
+-- g becomes the current generation; 15 if it is 0 or 1 (REFERENCE, Generation)
 unfoldable pub setGeneration : Arena → ℕ → List ℕ → Reply
 setGeneration a g l = cond (ltb g 2) (refusal 15 0 a l) (reply 0 [] (withHeader a (withCurrent g (a .header))) l)
 
--- '`inc_generation`: nothing more; it answers whether it overflowed.'
+-- the current generation is raised by one step, with 100 where that overflows (REFERENCE, Generation)
 unfoldable pub incGeneration : ℕ → Arena → List ℕ → Reply
 incGeneration top a l = reply (doneNumber (overflows top (current a))) [] (withHeader a (withCurrent (nextGeneration top (current a)) (a .header))) l

@@ -11,7 +11,7 @@ pub record Unchanged (a : Arena) (l : List ℕ) (r : Reply) : Type 0 where
   pub arena : (Accepted r → ⊥) → r .arena ≡ a
   pub back : (Accepted r → ⊥) → r .back ≡ l
 
--- 'Each answer word is 0 done, 100 done with generation overflow, 12, 13, or 16 for another code.'
+-- the numbers that a command can answer (REFERENCE, Run)
 pub data AnswerWord : ℕ → Type 0 where
   done : AnswerWord 0
   done-with-overflow : AnswerWord 100
@@ -19,7 +19,7 @@ pub data AnswerWord : ℕ → Type 0 where
   neighbour : AnswerWord 13
   no-code : AnswerWord 16
 
--- the reply r to one command on the arena a: 'A refused command changes nothing'
+-- the reply r to one command on the arena a: one of these numbers, and a is left as it was where the command is refused
 pub record OneCommand (a : Arena) (r : Reply) : Type 0 where
   pub answer : AnswerWord (r .number)
   pub refused : (Accepted r → ⊥) → r .arena ≡ a

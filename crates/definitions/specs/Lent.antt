@@ -1,5 +1,5 @@
 -- The arena that a function is lent as four columns and a header, for contracts: in a `requires` as it is, in an `ensures` as it was at entry and as
--- it is at exit. A column that is lent for reading alone is at exit what it was at entry.
+-- it is at exit. A column that is lent for reading alone is at exit what it was at entry (REFERENCE, Arena).
 use Prim.Native.Nat.{ℕ}
 use mathlib.Core.List.{List}
 use denote.Ref.{RefT, now}

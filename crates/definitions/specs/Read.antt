@@ -1,4 +1,4 @@
--- Reading links and neighbours (`get_link`, `get_link_no_gen`, `are_neighbors`) in an arena that passed the check.
+-- Reading links and neighbours (`get_link`, `get_link_no_gen`, `are_neighbors`) in an arena that passed the check (REFERENCE, Reading).
 use Prim.Native.Nat.{ℕ}
 use mathlib.Core.Bool.{Bool, cond, not, _&&_, _||_}
 use mathlib.Core.List.{List, [], _∷_}
@@ -7,7 +7,7 @@ use Rattle.definitions.specs.Columns.{at}
 use Rattle.definitions.specs.Arena.{Arena, stackLength}
 use Rattle.definitions.specs.Reply.{Reply, reply, refusal}
 
--- 'A pointer is a slot number and a generation.'
+-- a slot together with a generation (REFERENCE, Pointers and generations)
 pub record Pointer : Type 0 where
   pub slot : ℕ
   pub generation : ℕ
@@ -15,7 +15,8 @@ pub record Pointer : Type 0 where
 abbrev pub pointer : ℕ → ℕ → Pointer
 pointer s g = record { slot = s; generation = g }
 
--- 'A pointer is stale exactly if its slot is 0, past the stack or free, or the generations differ.'
+-- no link of this generation is in that slot: the slot is 0, above the stack or free, or its link has another generation
+-- (REFERENCE, Pointers and generations)
 unfoldable pub stale : Arena → Pointer → Bool
 stale a p =
     eqb (p .slot) 0
@@ -23,7 +24,7 @@ stale a p =
     || eqb (at (a .generation) (p .slot)) 0
     || not (eqb (at (a .generation) (p .slot)) (p .generation))
 
--- 'Reading a link (`get_link`): 12, stale pointer.' Fields: prev and its generation, next and its generation (0 and 0 for none), payload
+-- 12 if p is stale. Fields: prev and its generation, next and its generation, payload; a neighbour that is not there has 0 and 0 (REFERENCE, Reading)
 unfoldable pub getLink : Arena → Pointer → List ℕ → Reply
 getLink a p l =
     let before = at (a .prev) (p .slot) in
@@ -35,11 +36,11 @@ getLink a p l =
 abbrev pub linkWords : Arena → ℕ → List ℕ
 linkWords a s = at (a .prev) s ∷ at (a .next) s ∷ at (a .payload) s ∷ []
 
--- 'Reading a link (`get_link_no_gen`): 12, stale pointer.'
+-- 12 if p is stale. Fields: prev, next, payload (REFERENCE, Reading)
 unfoldable pub getLinkNoGen : Arena → Pointer → List ℕ → Reply
 getLinkNoGen a p l = cond (stale a p) (refusal 12 3 a l) (reply 0 (linkWords a (p .slot)) a l)
 
--- '`are_neighbors` answers no instead': whether p's next is q, and neither is stale
+-- both pointers are good, and the next of p's link is q's slot. Stale ones are no refusal: the answer is 0 (REFERENCE, Reading)
 unfoldable pub neighbors : Arena → Pointer → Pointer → Bool
 neighbors a p q = not (stale a p) && not (stale a q) && eqb (at (a .next) (p .slot)) (q .slot)
 

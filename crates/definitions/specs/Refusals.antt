@@ -1,5 +1,5 @@
--- Each refusal of the check in its smallest arenas, and their order where an arena has two faults, as one table. The limit is two slots here, so
--- that the smallest arena over it is short.
+-- Each rule of the check in the smallest arenas that fail it, and which number comes first where two rules fail, as one table (REFERENCE, Check). The
+-- limit is two slots here, so that the smallest arena over it is short.
 use Prim.Native.Nat.{ℕ}
 use mathlib.Core.Path.{_≡_, refl}
 use mathlib.Core.List.{List, [], _∷_, map}
@@ -18,44 +18,44 @@ row k ps ns gs h = record { number = k; of = arena ps ns gs (map (λ s. 7) ps) h
 -- the table
 unfoldable pub rows : List Row
 rows =
-    -- '1, columns of unequal length or over 65,535', and a header of another length
+    -- 1: a header of three words and of five, a next, generation or payload column longer than prev, and three slots where two are the limit
     row 1 [] [] [] (0 ∷ 0 ∷ 0 ∷ []) ∷
     row 1 [] [] [] (0 ∷ 0 ∷ 0 ∷ 5 ∷ 0 ∷ []) ∷
     row 1 [] (0 ∷ []) [] (0 ∷ 0 ∷ 0 ∷ 5 ∷ []) ∷
     row 1 [] [] (0 ∷ []) (0 ∷ 0 ∷ 0 ∷ 5 ∷ []) ∷
     record { number = 1; of = arena [] [] [] (0 ∷ []) (0 ∷ 0 ∷ 0 ∷ 5 ∷ []) } ∷
     row 1 (0 ∷ 0 ∷ 0 ∷ []) (0 ∷ 0 ∷ 0 ∷ []) (0 ∷ 0 ∷ 0 ∷ []) (0 ∷ 0 ∷ 0 ∷ 5 ∷ []) ∷
-    -- '2, current generation below 2'
+    -- 2: generation 1; generation 2 passes
     row 2 [] [] [] (0 ∷ 0 ∷ 0 ∷ 1 ∷ []) ∷
     row 0 [] [] [] (0 ∷ 0 ∷ 0 ∷ 2 ∷ []) ∷
-    -- '3, link count or stack length over capacity'
+    -- 3: more links than the columns have slots, and a longer stack
     row 3 [] [] [] (0 ∷ 1 ∷ 0 ∷ 5 ∷ []) ∷
     row 3 [] [] [] (1 ∷ 0 ∷ 0 ∷ 5 ∷ []) ∷
-    -- '4, link count is not the number of allocated slots'
+    -- 4: a link that is not counted, and one counted that is not there
     row 4 (0 ∷ []) (0 ∷ []) (5 ∷ []) (1 ∷ 0 ∷ 0 ∷ 5 ∷ []) ∷
     row 4 (0 ∷ []) (0 ∷ []) (5 ∷ []) (0 ∷ 1 ∷ 0 ∷ 5 ∷ []) ∷
-    -- '5, a root although no slot is free, or none although one is'
+    -- 5: a root without a free slot, and a free slot without a root
     row 5 (0 ∷ []) (0 ∷ []) (5 ∷ []) (1 ∷ 1 ∷ 1 ∷ 5 ∷ []) ∷
     row 5 (0 ∷ []) (1 ∷ []) (0 ∷ []) (1 ∷ 0 ∷ 0 ∷ 5 ∷ []) ∷
-    -- 'Then the freelist walk, per visit: 6, pointer 0'
+    -- 6: a free slot that leads on to 0
     row 6 (0 ∷ []) (0 ∷ []) (0 ∷ []) (1 ∷ 0 ∷ 1 ∷ 5 ∷ []) ∷
-    -- '7, pointer past the stack': of the last slot of the stack, so that the pointer is tested at visit stack length + 1; and the root
+    -- 7: the last slot of the stack leads above it, which is seen at visit stack length + 1; and a root above the stack
     row 7 (0 ∷ []) (2 ∷ []) (0 ∷ []) (1 ∷ 0 ∷ 1 ∷ 5 ∷ []) ∷
     row 7 (0 ∷ []) (1 ∷ []) (0 ∷ []) (1 ∷ 0 ∷ 70000 ∷ 5 ∷ []) ∷
-    -- '8, an allocated slot'
+    -- 8: a free slot that leads on to a link
     row 8 (0 ∷ 0 ∷ []) (0 ∷ 1 ∷ []) (5 ∷ 0 ∷ []) (2 ∷ 1 ∷ 2 ∷ 5 ∷ []) ∷
-    -- '9, stack length + 2 visits without a self-pointing slot'
+    -- 9: two free slots that lead to each other
     row 9 (0 ∷ 0 ∷ []) (2 ∷ 1 ∷ []) (0 ∷ 0 ∷ []) (2 ∷ 0 ∷ 1 ∷ 5 ∷ []) ∷
-    -- '10, fewer visited than free'
+    -- 10: the freelist ends at slot 1, and slot 2 is free too
     row 10 (0 ∷ 0 ∷ []) (1 ∷ 2 ∷ []) (0 ∷ 0 ∷ []) (2 ∷ 0 ∷ 1 ∷ 5 ∷ []) ∷
-    -- '11, a link whose prev or next is past the stack, free, or doesn't name it back'
+    -- 11: prev and next above the stack, prev and next free, prev and next a link that does not name this one
     row 11 (2 ∷ []) (0 ∷ []) (5 ∷ []) (1 ∷ 1 ∷ 0 ∷ 5 ∷ []) ∷
     row 11 (0 ∷ []) (2 ∷ []) (5 ∷ []) (1 ∷ 1 ∷ 0 ∷ 5 ∷ []) ∷
     row 11 (2 ∷ 0 ∷ []) (0 ∷ 2 ∷ []) (5 ∷ 0 ∷ []) (2 ∷ 1 ∷ 2 ∷ 5 ∷ []) ∷
     row 11 (0 ∷ 0 ∷ []) (2 ∷ 2 ∷ []) (5 ∷ 0 ∷ []) (2 ∷ 1 ∷ 2 ∷ 5 ∷ []) ∷
     row 11 (2 ∷ 0 ∷ []) (0 ∷ 0 ∷ []) (5 ∷ 5 ∷ []) (2 ∷ 2 ∷ 0 ∷ 5 ∷ []) ∷
     row 11 (0 ∷ 0 ∷ []) (2 ∷ 0 ∷ []) (5 ∷ 5 ∷ []) (2 ∷ 2 ∷ 0 ∷ 5 ∷ []) ∷
-    -- none: an empty arena, a closed link, an open pair, a freelist of two, and words past the stack and of a free slot that are not read
+    -- 0: no slots, a closed chain of one, an open pair, a freelist of two; any words above the stack, and any prev word of a free slot
     row 0 [] [] [] (0 ∷ 0 ∷ 0 ∷ 5 ∷ []) ∷
     row 0 (1 ∷ []) (1 ∷ []) (5 ∷ []) (1 ∷ 1 ∷ 0 ∷ 5 ∷ []) ∷
     row 0 (0 ∷ 1 ∷ []) (2 ∷ 0 ∷ []) (5 ∷ 5 ∷ []) (2 ∷ 2 ∷ 0 ∷ 5 ∷ []) ∷

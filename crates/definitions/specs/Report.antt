@@ -1,4 +1,4 @@
--- The report of a drain: five words an item, 'slot, generation, prev, next, payload'.
+-- The report of a drain: five words for each link that is removed (REFERENCE, Drain).
 use Prim.Native.Nat.{ℕ, zero, suc}
 use mathlib.Core.List.{List, [], _∷_}
 use lib.ListN.{getD, drop}

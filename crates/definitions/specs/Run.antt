@@ -1,4 +1,4 @@
--- A run of edits on an arena that passed the check.
+-- A run of edits on an arena that passed the check (REFERENCE, Run).
 use Prim.Native.Nat.{ℕ, zero, suc, _+_, _*_, _/_, _%_}
 use mathlib.Core.Bool.{Bool, cond, not}
 use mathlib.Core.List.{List, [], _∷_, map}
@@ -11,7 +11,7 @@ use Rattle.definitions.specs.Read.{Pointer, pointer}
 use Rattle.definitions.specs.Edit.{connect, breakPrev, breakNext, exchangeNext}
 use Rattle.definitions.specs.Remove.{remove}
 
--- 'Command: code, two slots each followed by its generation'
+-- a code and two pointers
 pub record Command : Type 0 where
   pub code : ℕ
   pub first : Pointer
@@ -21,13 +21,14 @@ pub record Command : Type 0 where
 abbrev pub commandWords : ℕ
 commandWords = 5
 
--- command i, from 0, of the words ws
+-- command i, from 0, of the words ws: the code, then slot and generation of the first pointer and of the second (REFERENCE, Run)
 abbrev pub commandAt : List ℕ → ℕ → Command
 commandAt ws i =
     let w = commandWords * i in
     record { code = getD ws w 0; first = pointer (getD ws (w + 1) 0) (getD ws (w + 2) 0); second = pointer (getD ws (w + 3) 0) (getD ws (w + 4) 0) }
 
--- 'codes 1 connect, 2 break prev, 3 break next, 4 exchange, 5 remove; codes 2, 3 and 5 ignore the second pointer'; '16 for another code'
+-- one command by its code: connect is 1, the breaks are 2 (prev) and 3 (next), exchange is 4, remove is 5, any other code is answered 16. Breaks and
+-- remove look at the first pointer alone (REFERENCE, Run)
 unfoldable pub apply : ℕ → Arena → Command → Reply
 apply top a c =
     cond (eqb (c .code) 1) (connect a (c .first) (c .second) [])
@@ -36,7 +37,7 @@ apply top a c =
     (cond (eqb (c .code) 4) (exchangeNext a (c .first) (c .second) [])
     (cond (eqb (c .code) 5) (remove top a (c .first) []) (refusal 16 0 a [])))))
 
--- the arena after a list of commands, and their answers: 'A refused command changes nothing and the run goes on.'
+-- a list of commands applied one after the other, each on what the one before it left: the arena in the end, and the number of each
 unfoldable pub applied : ℕ → Arena → List Command → Arena
 applied top a [] = a
 applied top a (c ∷ cs) = applied top (apply top a c .arena) cs
@@ -49,7 +50,8 @@ answersOf top a (c ∷ cs) = apply top a c .number ∷ answersOf top (apply top 
 abbrev pub commandsOf : List ℕ → List Command
 commandsOf ws = map (commandAt ws) (slotsFrom 0 (length ws / commandWords))
 
--- '16, command words not a multiple of five. Then 14, fewer answer words than commands.' It hands back the answers
+-- 16 if the words are no whole commands, then 14 if the answers are fewer than the commands. Else all are applied, and the numbers fill the answers
+-- from the front; these are handed back (REFERENCE, Run)
 unfoldable pub run : ℕ → Arena → List ℕ → List ℕ → Reply
 run top a ws answers =
     cond (not (eqb (length ws % commandWords) 0)) (refusal 16 0 a answers)

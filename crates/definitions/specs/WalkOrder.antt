@@ -1,5 +1,5 @@
--- The order of a walk: 'A walk goes along next from its start, then along prev from the start's prev. On a closed chain it ends before its start
--- returns.'
+-- The order of a walk: from its start to the end of the chain, then from the link before the start back to the chain's beginning; a closed chain is
+-- gone round once (REFERENCE, Walk).
 use Prim.Native.Nat.{ℕ, _≤_}
 use mathlib.Core.Path.{_≡_}
 use mathlib.Core.Bool.{true}

@@ -1,1 +1,2 @@
-// What every call means stands in specs/. There is no code here: the crates above it meet these definitions.
+// What every call means stands in specs/, and docs/REFERENCE.md tells it as a manual. There is no code here: the crates above it meet these
+// definitions.

@@ -18,7 +18,7 @@ unfoldable pub instead : ℕ → ℕ → List ℕ → List ℕ
 instead o y [] = []
 instead o y (z ∷ r) = cond (eqb z o) (y ∷ r) (z ∷ instead o y r)
 
--- r is who is in slots i, i+1, and so on. o is put in slot i by exchanging slots with who is there: who is in slots i+1, i+2, and so on then
+-- r is who is in slots i, i+1, and so on. o comes to slot i and who is there goes where o was: this is who is in slots i+1, i+2, and so on then
 unfoldable pub bring : ℕ → List ℕ → List ℕ
 bring o [] = []
 bring o (x ∷ r) = cond (eqb x o) r (instead o x r)

@@ -1,5 +1,5 @@
--- Both compressions computed at the largest generation, with the port's limits: the overflow is reported with the work done. And demand 3 is not met by a
--- compression that moves nothing. Assumes nothing.
+-- Both compressions computed at the largest generation, with the port's limits: without reset they are done and answer 100. And demand 3 is not met
+-- by a compression that moves nothing. Assumes nothing.
 use Prim.Native.Nat.{ℕ}
 use mathlib.Core.Path.{_≡_, refl}
 use mathlib.Core.Bool.{true, false}
@@ -14,7 +14,7 @@ use Rattle.definitions.specs.Chains.{Linked, IsChain, Listing, nth, extended, c
 use Rattle.definitions.specs.Compress.{raises, compressGeneration, compressNumber, place, relocate, movesOf, compressWith, exchanged, exchangeWords, exchangeLinks, exchangeSlots, putAtI, lowestFrom, startOf, layChain, layChains, laidOut, canonicalArena, compressCanonical}
 use Rattle.definitions.specs.Calls.{CompressWith, CompressCanonical, accepted, replyTo}
 
--- slot 1 free, 2→4, 3 closed alone, in a stack of 4 of capacity 5, at the largest generation: the overflow is reported with the work done
+-- slot 1 is free, 2 and 4 are an open chain, 3 is a closed one, in a stack of 4 of capacity 5, at the largest generation
 abbrev atTheLargest : Arena
 atTheLargest = arena (0 ∷ 0 ∷ 3 ∷ 2 ∷ 7 ∷ []) (1 ∷ 4 ∷ 3 ∷ 0 ∷ 7 ∷ []) (0 ∷ 5 ∷ 5 ∷ 5 ∷ 7 ∷ []) (8 ∷ 12 ∷ 13 ∷ 14 ∷ 7 ∷ []) (4 ∷ 3 ∷ 1 ∷ 4294967295 ∷ [])
 
@@ -25,7 +25,7 @@ pub canonical-overflows : replyTo capacityLimit largestGeneration (CompressCanon
 unfolding at put firstOr slotsFrom keep settled allocated linkSlots freeSlots misshapen freelistWalk namesBack neighboursFine allFine countsOf verdict nextGeneration overflows raises compressGeneration compressNumber exchanged exchangeWords exchangeLinks exchangeSlots putAtI lowestFrom startOf layChain layChains laidOut canonicalArena compressCanonical accepted replyTo
 canonical-overflows = refl
 
--- on reset it is never an overflow
+-- with reset the generation is 2 too, and that is no overflow
 pub canonical-resets : replyTo capacityLimit largestGeneration (CompressCanonical true) atTheLargest (9 ∷ 9 ∷ 9 ∷ 9 ∷ 9 ∷ []) ≡
     reply 0 []
     (arena (0 ∷ 1 ∷ 3 ∷ 0 ∷ 7 ∷ []) (2 ∷ 0 ∷ 3 ∷ 0 ∷ 7 ∷ []) (2 ∷ 2 ∷ 2 ∷ 0 ∷ 7 ∷ []) (12 ∷ 14 ∷ 13 ∷ 0 ∷ 7 ∷ []) (3 ∷ 3 ∷ 0 ∷ 2 ∷ []))
@@ -40,7 +40,7 @@ pub order-preserving-overflows : replyTo capacityLimit largestGeneration (Compre
 unfolding at put slotsFrom keep written settled allocated linkSlots freeSlots misshapen freelistWalk namesBack neighboursFine allFine countsOf verdict nextGeneration overflows raises compressGeneration compressNumber place relocate movesOf compressWith accepted replyTo
 order-preserving-overflows = refl
 
--- K11, whose compression is a row of the table of marked cases: '1→5 and lone 2, 3, 4'
+-- K11, whose compression is a row of the table of marked cases: a chain of slots 1 and 5, the others lone
 abbrev k11 : Arena
 k11 = arena (0 ∷ 0 ∷ 0 ∷ 0 ∷ 1 ∷ []) (5 ∷ 0 ∷ 0 ∷ 0 ∷ 0 ∷ []) (5 ∷ 5 ∷ 5 ∷ 5 ∷ 5 ∷ []) (11 ∷ 12 ∷ 13 ∷ 14 ∷ 15 ∷ []) (5 ∷ 5 ∷ 0 ∷ 5 ∷ [])
 

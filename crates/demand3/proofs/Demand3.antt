@@ -1,24 +1,26 @@
--- DEMAND 3, proved of the definition that the exported canonical compression cites, `replyTo` at `CompressCanonical`: document 01's exchange of slots. The
--- customer's words, and the field of `Demand3` that answers each (`specs/Demand3.antt` of `definitions` states them; `one` is a record `OfOne`):
+-- DEMAND 3, proved of the definition that the exported canonical compression cites, `replyTo` at `CompressCanonical`. Clause by clause
+-- (REFERENCE, What canonical compression keeps), with the field of `Demand3` that says it; `specs/Demand3.antt` of `definitions` states the fields,
+-- and `one` is a record `OfOne`:
 --
---   'Let any arena that passes the check be compressed canonically, with or without reset;'
---        accepted: with a where-from column as long as the others, such a call is accepted, with either reset; accepted means 0 or 100
---   'then its n links fill exactly slots 1 to n,'                      one.fills, one.stack, one.links
---   'no freelist root remains,'                                        one.root
---   'and the where-from column is a one-to-one renaming'               one.renaming: size, each, only
---   'that carries every payload and neighbour.'                        one.renaming: payload, prev, next
---   'Each chain lies on consecutive slots in next order.'              one.consecutive: each next is the following slot
---   'Cutting the slots wherever next is not the following slot gives back exactly the chains it had, each once, closed ones up to rotation.'
---        one.chains: what the pieces came from is a listing of the old chains; one.ends: an open piece's last next is 0
---        one.every and listings: every link is on exactly one chain, and any two listings of an arena's chains pair up, so that 'the chains it had' are these
---   'So any two arenas with equal n whose compressed slots 1 to n agree in prev, next and payload hold the same chains of payloads, each as often,
---   whatever their generations, capacities and free slots were.'       same
---   'After any list of further canonical compressions, with or without reset, refused ones included, no link has moved.'
---        unmoved: one claim about the whole list, with where-from columns of any length
+--   where the check passes and the where-from column fits, the call is done
+--        accepted: with any reset, if that column has the length of the columns; done means 0 or 100
+--   the links are in slots 1 to n and in no other                      one.fills, one.stack, one.links
+--   and there is no root                                               one.root
+--   slots 1 to n came from the old links, from each of them once       one.renaming: size, each, only
+--   payloads went along, and neighbours under their new names          one.renaming: payload, prev, next
+--   the links of an old chain are side by side now, along next         one.consecutive: each next is the slot above, but for the last
+--   the row of slots 1 to n, cut where next does not lead on to the slot above, falls into the old chains
+--        one.chains: where the pieces came from is a listing of the old chains; one.ends: the last link of an open piece has no next
+--        one.every and listings: the old chains are well defined, for each link is on one of them and no other, and any two listings pair up
+--   equal words mean equal chains of payloads
+--        same: two arenas with as many links, which compressed have the same prev, next and payload words in slots 1 to n, held the same; of what
+--        generations and capacity they were, and what was free in them, does not matter
+--   further canonical compressions move nothing
+--        unmoved: said of a list of calls as a whole, with any resets and where-from columns of any lengths, so that some may be refused
 --
--- The argument: a chain brought to the front by exchanges lies on consecutive slots (LayChain), so that the links end in the canonical order, chain by chain
--- (LayChains, Equivalence); laying out any order is a one-to-one renaming (crate `renaming`); its pieces are the chains of the order (Pieces); and the
--- canonical order of what is left is 1 to n (Again). Assumes nothing.
+-- The argument: a chain brought to the front by exchanges is on consecutive slots (LayChain), so that the links end in the canonical order, chain by
+-- chain (LayChains, Equivalence); laying out any order renames every link once (crate `renaming`); its pieces are the chains of the order (Pieces);
+-- and the canonical order of what is left is 1 to n (Again). Assumes nothing.
 use Prim.Native.Nat.{ℕ}
 use Rattle.definitions.specs.Arena.{capacityLimit, largestGeneration}
 use Rattle.definitions.specs.Demand3.{Demand3}

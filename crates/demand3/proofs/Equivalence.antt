@@ -1,5 +1,6 @@
--- Canonical compression as document 01 words it, exchange by exchange, leaves exactly what laying the links out in the canonical order leaves, and the
--- where-from column is that order. Once no link waits, slots 1 to n hold the order, and what a link names now is the slot of what it named. Assumes nothing.
+-- Canonical compression as it is defined, exchange by exchange, leaves exactly what laying the links out in the canonical order leaves, and that
+-- order is what the where-from column says. Once no link waits, slots 1 to n hold the order, and what a link names now is the slot of what it named.
+-- Assumes nothing.
 use Prim.Native.Nat.{ℕ, _≤_}
 use mathlib.Core.Path.{_≡_, refl, sym, ap, _∙_}
 use mathlib.Core.Logic.{_≢_}
@@ -101,7 +102,7 @@ module _ (limit top : ℕ) (a : Arena) (ok : WellFormed limit a) (reset : Bool) 
   pub links-laid : length (canonicalOrder a) ≡ linkCount a
   links-laid = canonical-size a (well-formed-linked ok) (ok .links)
 
-  -- 'Places 0 to n−1 get the old slot of the link now there'
+  -- the where-from column begins with the order, and the arena is laid out in it
   pub canonical-accepted : length whereFrom ≡ capacity a →
       compressCanonical top reset a whereFrom ≡
       reply (compressNumber top reset a) [] (relocate (canonicalOrder a) (compressGeneration top reset a) a) (settled (stackLength a) (canonicalOrder a) whereFrom)

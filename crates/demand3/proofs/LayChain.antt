@@ -1,5 +1,5 @@
--- One chain laid out by exchanges: its links come to slots k+1, k+2, and so on, in next order, and who waited there waits where they were. The walk's two
--- ends, no next and the slot of the first link, are the two ends of a chain in old slots. Assumes nothing.
+-- One chain laid out by exchanges: its links come to slots k+1, k+2, and so on, along next, and who waited there waits where they were. The walk's
+-- two ends, no next and the slot of the first link, are the two ends of a chain in old slots. Assumes nothing.
 use Prim.Native.Nat.{ℕ, zero, suc, _+_, _≤_, _<_}
 use mathlib.Core.Path.{_≡_, refl, sym, ap, subst, _∙_}
 use mathlib.Core.Logic.{_≢_, _⊎_, inl, inr}

@@ -1,5 +1,5 @@
--- Chain after chain laid out by exchanges, as document 01 words it, is the canonical order: the lowest link at or above i as slots are now is the first
--- link of who waits, its chain's start is where the walk back in old slots ends, and the rest follows chain by chain. Assumes nothing.
+-- Chain after chain laid out by exchanges, as it is defined, is the canonical order: the lowest link from slot i on is the first link of who waits,
+-- its chain begins where the walk back in old slots ends, and the rest follows chain by chain. Assumes nothing.
 use Prim.Native.Nat.{ℕ, zero, suc, _+_, _-_, _≤_, _<_}
 use mathlib.Core.Path.{_≡_, refl, sym, ap, subst, _∙_}
 use mathlib.Core.Logic.{_≢_, _⊎_, inl, inr}
@@ -206,7 +206,7 @@ module _ (a : Arena) (linked : DoublyLinked a) (room : Room a) where
                 (unfold flatten in brought-both a l m (layChains f m) k (one .0) (all .0) c (flatten (chainsFrom a f (brings c r))) (one .1) (rw (one .1 .rest) at (all .1))),
           )
 
-  -- 'i starts at 1': the first n places of the where-from column are the canonical order, and the slots are carried
+  -- laying out begins at slot 1: the first n places of the where-from column are the canonical order, and the slots are carried
   pub canonical-laid-out : (take (length (canonicalOrder a)) (laidOut a .from) ≡ canonicalOrder a) × Carried a (laidOut a .slots) (laidOut a .from)
   unfolding laidOut canonicalOrder canonicalChains
   canonical-laid-out =

@@ -1,4 +1,5 @@
--- One canonical compression: what an accepted one left fills slots 1 to n, is a one-to-one renaming, and its pieces are the old chains. Assumes nothing.
+-- One canonical compression: what an accepted one left fills slots 1 to n, renames every link once, and its pieces are the old chains. Assumes
+-- nothing.
 use Prim.Native.Nat.{ℕ, _≤_}
 use mathlib.Core.Path.{_≡_}
 use mathlib.Core.List.{List}

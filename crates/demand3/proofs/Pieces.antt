@@ -1,5 +1,5 @@
--- Slots cut where next is not the following slot: if an order of the links is chain after chain, the pieces of the arena laid out in it are these chains,
--- one piece for each, open or closed as it is. Assumes nothing.
+-- Slots cut where next does not lead on to the slot above: if an order of the links is chain after chain, the pieces of the arena laid out in it are
+-- these chains, one piece for each, open or closed as it is. Assumes nothing.
 use Prim.Native.Nat.{ℕ, zero, suc, _+_, _-_, _≤_, _<_}
 use mathlib.Core.Path.{_≡_, refl, sym, ap, _∙_}
 use mathlib.Core.Logic.{_≢_}

@@ -1,5 +1,5 @@
--- What an arena laid out in the canonical order gives back: cut where next is not the following slot, its pieces came from exactly the old chains, each
--- once; an open piece's last next is 0; and each old chain lies on consecutive slots. Assumes nothing.
+-- What an arena laid out in the canonical order gives back: cut where next does not lead on to the slot above, its pieces came from the old chains,
+-- one from each; the last link of an open piece has no next; and each old chain is on consecutive slots. Assumes nothing.
 use Prim.Native.Nat.{ℕ, zero, suc, _<_}
 use mathlib.Core.Path.{_≡_, refl, sym, ap, _∙_}
 use mathlib.Core.Logic.{inl, inr}

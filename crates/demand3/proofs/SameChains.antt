@@ -1,5 +1,5 @@
--- Two arenas whose compressed slots agree in next and payload hold the same chains of payloads: the same slots are cut into the same pieces, and piece by
--- piece the payloads are the same. Assumes nothing.
+-- Two arenas that are compressed to the same next and payload words held the same: the same slots are cut into the same pieces, and piece by piece
+-- the payloads are the same. Assumes nothing.
 use Prim.Native.Nat.{ℕ, zero, suc, _≤_, _<_}
 use mathlib.Core.Path.{_≡_, refl, sym, ap, subst, _∙_}
 use mathlib.Core.Logic.{_≢_}

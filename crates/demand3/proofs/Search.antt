@@ -18,7 +18,7 @@ some-left : (n i : ℕ) → i ≤ n → suc n - i ≡ suc (n - i)
 some-left n i h = omega arith
 
 module _ (b : Arena) (i : ℕ) where
-  -- 'the lowest allocated slot at or above i': i itself, if it is a link
+  -- the lowest link from slot i on: i itself, if it is a link
   pub lowest-stops : i ≤ stackLength b → isLink b i ≡ true → lowestFrom b i ≡ i
   unfolding lowestFrom slotsFrom
   lowest-stops h e = rw (some-left (stackLength b) i h, keep-yes (isLink b) i (slotsFrom (suc i) (stackLength b - i)) e) (unfold firstOr in refl)

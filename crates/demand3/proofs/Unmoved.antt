@@ -1,5 +1,5 @@
--- After a canonical compression no list of further ones moves a link: the canonical order is 1 to n, and a renaming by 1 to n changes no word. What one call
--- keeps, the next one needs, so that it is one claim about the whole list, refused calls included. Assumes nothing.
+-- After a canonical compression no list of further ones moves a link: the canonical order is 1 to n, and a renaming by 1 to n changes no word. What
+-- one call keeps, the next one needs, so that it is proved of the list as a whole, refused calls included. Assumes nothing.
 use Prim.Native.Nat.{ℕ, _≤_}
 use mathlib.Core.Path.{_≡_, refl, sym, ap, subst, _∙_}
 use mathlib.Core.List.{List, [], _∷_, map}

@@ -1,6 +1,6 @@
--- 'drain removes exactly the links of p's chain, no other link's payload or neighbour changes, and its report lists them in walk order':
--- `drain-takes-the-chain`, and of the public call `done-drain-takes-the-chain`. The walk from p lists the chain that p is on, each link once; a chain
--- holds all neighbours of its links, so that no link outside it names one that is removed. Assumes nothing.
+-- A drain takes the links of p's chain and no other: `drain-takes-the-chain`, and of the public call `done-drain-takes-the-chain`. The walk from p
+-- lists the chain that p is on, each link once; a chain holds all neighbours of its links, so that no link outside it names one that is removed.
+-- Assumes nothing.
 use Prim.Native.Nat.{ℕ, _+_, _*_, _≤_, _<_}
 use mathlib.Core.Path.{_≡_, refl, sym, _∙_}
 use mathlib.Core.Bool.{true, false}

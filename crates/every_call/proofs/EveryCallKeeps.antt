@@ -73,7 +73,7 @@ module _ (limit top : ℕ) where
   every-call-keeps c a l passes =
       rw (eq-eqb (verdict limit a) 0 passes) (passes-if-well-formed limit _ (call-keeps c a l (well-formed-if-passes limit a passes)))
 
-  -- after any list of calls, each on what the last one left
+  -- after any list of calls, made one after the other
   pub any-calls-keep : (ms : List Made) (a : Arena) → verdict limit a ≡ 0 → verdict limit (arenaAfter limit top ms a) ≡ 0
   unfolding arenaAfter
   any-calls-keep [] a passes = passes

@@ -1,7 +1,6 @@
--- Demand 1: 'every public call [..] refuses a broken arena or pointer as document 01 numbers it, and on refusal changes no lent buffer.'
--- `refusal-changes-nothing` says so of every call: a reply that is neither 0 nor 100 leaves the arena, columns and header, as it was, and hands
--- back the lent slice, or the state of a walk, as it was handed in. Every definition branches by `cond` into refusals, which change nothing, and
--- accepted replies, whose number is 0 or 100. Assumes nothing.
+-- Demand 1, that a refused call has changed nothing (REFERENCE, Demands): `refusal-changes-nothing` says of every call that a reply that is neither 0
+-- nor 100 leaves the arena, columns and header, as it was, and hands back the lent slice, or the state of a walk, as it was handed in. Every
+-- definition branches by `cond` into refusals, which change nothing, and accepted replies, whose number is 0 or 100. Assumes nothing.
 use Prim.Native.Nat.{ℕ}
 use mathlib.Core.Path.{_≡_, refl}
 use mathlib.Core.Logic.{inl, inr}
@@ -90,7 +89,7 @@ pub refusal-changes-nothing : (limit top : ℕ) (c : Call) (a : Arena) (l : List
 unfolding replyTo
 refusal-changes-nothing limit top c a l = search (either, of-call, refuses)
 
--- and of a command of a run: 'A refused command changes nothing and the run goes on.'
+-- and of a command of a run
 pub refused-command : (top : ℕ) (a : Arena) (c : Command) → Unchanged a [] (apply top a c)
 unfolding apply connect breakPrev breakNext exchangeNext remove
 refused-command top a c = search branches depth 12

@@ -1,6 +1,6 @@
--- A run is the fold of its commands. 'Each answer word is 0 done, 100 done with generation overflow, 12, 13, or 16 for another code. A refused command
--- changes nothing and the run goes on.' `reply-of-a-run` says what an accepted run replies, `run-goes-on` (crate `kept`) that what comes after some
--- commands is a run on the arena that they left, `one-command` what a command answers and that a refused one changes nothing. Assumes nothing.
+-- A run is the fold of its commands (REFERENCE, Run): `reply-of-a-run` says what an accepted run replies, `run-goes-on` (crate `kept`) that what
+-- comes after some commands is a run on the arena that they left, `one-command` which numbers a command can answer, and that a refused one changes
+-- nothing. Assumes nothing.
 use Prim.Native.Nat.{ℕ, _≤_, _/_, _%_}
 use mathlib.Core.Path.{_≡_, refl}
 use mathlib.Core.Bool.{Bool, true, false, cond}

@@ -1,4 +1,4 @@
-// The words of a lent arena's header, by name.
+// The words of a lent arena's header, by name (REFERENCE, Arena).
 
 // How many words the header is.
 pub const HEADER_WORDS: usize = 4;

@@ -1,4 +1,4 @@
--- Drain keeps an arena well formed: each of its slots is a link when it is removed, since no slot comes twice. Assumes nothing.
+-- Drain keeps an arena well formed: each of its slots is a link when it is removed, since none is listed twice. Assumes nothing.
 use Prim.Native.Nat.{ℕ}
 use mathlib.Core.Path.{_≡_}
 use mathlib.Core.Bool.{true, false}

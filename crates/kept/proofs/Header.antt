@@ -13,7 +13,7 @@ use Rattle.definitions.specs.Edit.{nextGeneration, setGeneration, incGeneration
 use Rattle.definitions.proofs.Tests.{by-test}
 use Rattle.kept.proofs.Edits.{either-keeps}
 
--- what holds of stack length, link count, root and current generation, as four words, holds of the header
+-- what holds of four words, whatever they are, holds of the header
 pub four-words : (P : List ℕ → Type 0) (h : List ℕ) → length h ≡ headerWords → ((n k r g : ℕ) → P (n ∷ k ∷ r ∷ g ∷ [])) → P h
 four-words P [] e f = absurd (omega arith)
 four-words P (n ∷ []) e f = absurd (omega arith)

@@ -113,7 +113,7 @@ module _ (limit top : ℕ) (ps ns gs vs : List ℕ) (n k r g s : ℕ) (ok : Well
       once = λ x some within free. l .once x some (omega arith) (free-before x free (λ e. omega arith));
     }
 
-    -- s is freed: it stands in front, and points at the old root, or at itself if there was none
+    -- s is freed: it stands in front, and leads on to the root that was, or to itself where none was
     abbrev f : ℕ
     f = cond (eqb r 0) s r
 

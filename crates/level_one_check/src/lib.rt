@@ -6,7 +6,8 @@ ghost use Rattle.answers.specs.Answered.{Answered};
 use answers::Answer;
 use answers::checked;
 
-// Whether the lent arena is whole: 0, or the first of 1 to 11 that is wrong with it. Every other call makes this check first.
+// Whether the lent arena can be worked with: 0, or the number of the first rule that fails. Every other call makes this check first
+// (REFERENCE, Check).
 #[no_mangle]
 pub extern "C" fn chain_arena_check(
     prev: &[u16],

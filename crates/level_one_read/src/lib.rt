@@ -34,7 +34,7 @@ pub struct NeighborsResult {
     pub yes: u32,
 }
 
-// The link at p and its neighbours with their generations.
+// The link at p and its neighbours with their generations (REFERENCE, Reading).
 #[no_mangle]
 pub extern "C" fn chain_arena_get_link(
     prev: &[u16],
@@ -83,7 +83,7 @@ pub extern "C" fn chain_arena_get_link(
     }
 }
 
-// The link at p.
+// The link at p (REFERENCE, Reading).
 #[no_mangle]
 pub extern "C" fn chain_arena_get_link_no_gen(
     prev: &[u16],
@@ -126,7 +126,7 @@ pub extern "C" fn chain_arena_get_link_no_gen(
     }
 }
 
-// Whether the next of p_prev is p_next; no where either is stale.
+// Whether the next of p_prev is p_next; no where either is stale (REFERENCE, Reading).
 #[no_mangle]
 pub extern "C" fn chain_arena_are_neighbors(
     prev: &[u16],

@@ -13,7 +13,7 @@ use ptr::Gen;
 use ptr::Ptr;
 use ptr::Slot;
 
-// The state of a walk that was started.
+// The state of a walk that has begun.
 #[repr(C)]
 pub struct WalkResult {
     pub answer: Answer,
@@ -35,7 +35,7 @@ pub struct StepResult {
     pub left: u32,
 }
 
-// Starts a walk at p.
+// Begins a walk at p (REFERENCE, Walk).
 #[no_mangle]
 pub extern "C" fn chain_arena_walk_start(
     prev: &[u16],
@@ -81,7 +81,7 @@ pub extern "C" fn chain_arena_walk_start(
     }
 }
 
-// One step of a walk: the link at the position, or none, and the next state. A refused step hands back its state as it was.
+// One step of a walk: the link at the position, or none, and the next state. A refused step gives its state back as it got it (REFERENCE, Walk).
 #[no_mangle]
 pub extern "C" fn chain_arena_walk_step(
     prev: &[u16],

@@ -9,8 +9,8 @@ use answers::Answer;
 use answers::checked;
 use compress_canonical::compress_canonical;
 
-// Lays the chains out on consecutive slots in next order, in a new generation, and says of each link in the where-from column which slot it came
-// from. Reset, where it is not 0, makes the generation 2.
+// Lays the chains out one behind the other, each along next, in a new generation; the where-from column says for each slot which one its link was in
+// before. Reset, where it is not 0, makes the generation 2 (REFERENCE, Canonical compression).
 #[no_mangle]
 pub extern "C" fn chain_arena_compress_canonical(
     prev: &mut [u16],

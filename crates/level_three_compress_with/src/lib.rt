@@ -9,8 +9,8 @@ use answers::Answer;
 use answers::checked;
 use compress_with::compress_with;
 
-// Moves the links down in slot order, in a new generation, and reports for each its old slot and generation and its new ones. Reset, where it is not
-// 0, makes the generation 2.
+// Moves the links to the front in the order of their slots, in a new generation, and reports for each its old slot and generation and its new ones.
+// Reset, where it is not 0, makes the generation 2 (REFERENCE, Order-preserving compression).
 #[no_mangle]
 pub extern "C" fn chain_arena_compress_with(
     prev: &mut [u16],

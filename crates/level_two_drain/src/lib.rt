@@ -17,7 +17,7 @@ use ptr::Gen;
 use ptr::Ptr;
 use ptr::Slot;
 
-// A drain's answer: so many items, and the item, from 1, whose removal overflowed the generation, 0 for none.
+// A drain's answer: how many links were removed, and which one of them, counted from 1, made the generation overflow, 0 if none did.
 #[repr(C)]
 pub struct DrainResult {
     pub answer: Answer,
@@ -48,7 +48,7 @@ fn drain_result(d: Drained) -> DrainResult
     }
 }
 
-// Removes every link of p's chain, in the order of a walk from p, and reports each as it is at its own removal: slot, generation, prev, next, payload.
+// Removes every link of p's chain, in the order of a walk from p, and reports each as it is when its turn comes, in five words (REFERENCE, Drain).
 #[no_mangle]
 pub extern "C" fn chain_arena_drain(
     prev: &mut [u16],

@@ -14,7 +14,7 @@ use ptr::Gen;
 use ptr::Ptr;
 use ptr::Slot;
 
-// Joins the end p_prev to the start p_next.
+// Joins the end p_prev to the start p_next (REFERENCE, Connect).
 #[no_mangle]
 pub extern "C" fn chain_arena_connect(
     prev: &mut [u16],
@@ -45,7 +45,7 @@ pub extern "C" fn chain_arena_connect(
     Answer::of(connect(prev, next, generation, payload, header, p_prev, p_next).number())
 }
 
-// Takes the interlink between p and its prev away.
+// Takes the interlink between p and its prev away (REFERENCE, Break).
 #[no_mangle]
 pub extern "C" fn chain_arena_break_prev(
     prev: &mut [u16],
@@ -70,7 +70,7 @@ pub extern "C" fn chain_arena_break_prev(
     Answer::of(break_prev(prev, next, generation, payload, header, p).number())
 }
 
-// Takes the interlink between p and its next away.
+// Takes the interlink between p and its next away (REFERENCE, Break).
 #[no_mangle]
 pub extern "C" fn chain_arena_break_next(
     prev: &mut [u16],
@@ -95,7 +95,7 @@ pub extern "C" fn chain_arena_break_next(
     Answer::of(break_next(prev, next, generation, payload, header, p).number())
 }
 
-// Gives each of p0 and p1 the other's next.
+// Gives each of p0 and p1 the other's next (REFERENCE, Exchange).
 #[no_mangle]
 pub extern "C" fn chain_arena_exchange_next(
     prev: &mut [u16],

@@ -10,7 +10,7 @@ use base_freelist::inc_generation;
 use base_freelist::set_generation;
 use ptr::Gen;
 
-// Makes new_generation the current one; 15 where it is below 2.
+// Makes new_generation the current one; 15 where it is 0 or 1 (REFERENCE, Generation).
 #[no_mangle]
 pub extern "C" fn chain_arena_set_generation(
     prev: &[u16],
@@ -30,7 +30,7 @@ pub extern "C" fn chain_arena_set_generation(
     Answer::of(set_generation(header, Gen(new_generation)).number())
 }
 
-// Raises the current generation; 100 where it overflowed.
+// Raises the current generation; 100 where it overflowed (REFERENCE, Generation).
 #[no_mangle]
 pub extern "C" fn chain_arena_inc_generation(
     prev: &[u16],
@@ -50,7 +50,7 @@ pub extern "C" fn chain_arena_inc_generation(
     Answer::of(raised)
 }
 
-// Pops the free end slots, then lists the other free slots in rising order.
+// Pops the free slots at the end of the stack and lists the others in rising order (REFERENCE, Freelist).
 #[no_mangle]
 pub extern "C" fn chain_arena_canonicalize_freelist(
     prev: &mut [u16],

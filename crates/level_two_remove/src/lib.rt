@@ -45,7 +45,7 @@ fn remove_result(removed: InvalidationResult) -> LinkNoGenResult
     }
 }
 
-// Removes the link at p, and answers what it was.
+// Removes the link at p, and answers what it was (REFERENCE, Remove).
 #[no_mangle]
 pub extern "C" fn chain_arena_remove(
     prev: &mut [u16],

@@ -1,4 +1,4 @@
-// Level Two, a run of many edits under one check, as a host calls it.
+// Level Two, many edits in one call, as a host calls it.
 ghost use mathlib.Core.List.{[]};
 ghost use Rattle.definitions.specs.Lent.{atEntry, atExit};
 ghost use Rattle.definitions.specs.Calls.{Run};
@@ -7,7 +7,7 @@ use answers::Answer;
 use answers::checked;
 use chain_run::run;
 
-// Runs the commands, five words each, and writes an answer word for each: 0, 100, 12, 13 or 16.
+// Runs the commands, five words each, and writes an answer word for each: 0, 100, 12, 13 or 16 (REFERENCE, Run).
 #[no_mangle]
 pub extern "C" fn chain_arena_run(
     prev: &mut [u16],

@@ -1,4 +1,4 @@
--- Document 01's number and values for the answer of a removal.
+-- What a removal answers, as number and words (REFERENCE, Remove).
 use Prim.Native.Nat.{ℕ}
 use mathlib.Core.List.{List, [], _∷_}
 use Rattle.definitions.specs.Arena.{Arena}
@@ -11,7 +11,7 @@ use Rattle.links.specs.declared.InvalidationResult.the-variants.{Success
 abbrev pub noGenWords : LinkNoGen → List ℕ
 noGenWords l = l .prev .0 ∷ l .next .0 ∷ l .t ∷ []
 
--- 0, 100 or 12; 'It answers the link's prev, next and payload as they were'. a is the arena left, b what is handed back
+-- 0 or 100 with the link's words before the removal, or 12. a is the arena left, b what is handed back
 abbrev pub removalReply : InvalidationResult → Arena → List ℕ → Reply
 removalReply (Success l) a b = reply 0 (noGenWords l) a b
 removalReply (GenerationOverflow l) a b = reply 100 (noGenWords l) a b

@@ -46,7 +46,7 @@ pub enum InvalidationResult {
 }
 
 impl InvalidationResult {
-    // Document 01's number for the answer.
+    // The number of the answer (REFERENCE, Numbers).
     pub fn number(self) -> u32
         ensures { λ k. ⌜ ((a : Arena) (l : List ℕ) → k ≡ removalReply self a l .number) ⌝ }
     {

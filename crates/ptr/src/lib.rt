@@ -7,10 +7,10 @@ ghost use Rattle.ptr.specs.Extra.{invalidationNumber};
 // A slot number; 0 where there is none.
 pub struct Slot(pub u16);
 
-// A generation; 0 marks a free slot.
+// A generation; a free slot has 0.
 pub struct Gen(pub u32);
 
-// 'A pointer is a slot number and a generation.'
+// A slot together with a generation (REFERENCE, Pointers and generations).
 pub struct Ptr {
     pub inx: Slot,
     pub generation: Gen,
@@ -26,7 +26,7 @@ impl Gen {
     // The first generation.
     pub const TWO: Gen = Gen(2);
 
-    // The generation that follows this one: '4,294,967,295 is followed by 2, reported as overflow'.
+    // The generation that follows this one: 2 after the largest, 4,294,967,295, and that step is an overflow.
     pub fn generational_inc(self) -> GenerationalInc
         ensures { λ r. ⌜ (r .generation .0 ≡ nextGeneration largestGeneration (self .0)) × (r .overflow ≡ overflows largestGeneration (self .0)) ⌝ }
     {
@@ -61,7 +61,7 @@ impl InvalidationOption {
         InvalidationOption::Success
     }
 
-    // Document 01's number for the answer.
+    // The number of the answer (REFERENCE, Numbers).
     pub fn number(self) -> u32
         ensures { λ r. ⌜ r ≡ invalidationNumber self ⌝ }
     {

@@ -1,6 +1,6 @@
--- Whatever order lists the links once each: laying them out in it is a one-to-one renaming that carries every payload and neighbour, the links fill
--- exactly slots 1 to n, and the arena left is well formed. A neighbour goes where its old slot stands in the order, so that who came from whom is read
--- back from the order. Assumes nothing.
+-- Whatever order lists the links once each: laying them out in it renames every link once, payloads go along and neighbours get their new names,
+-- slots 1 to n and no others are links, and the arena left is well formed. A neighbour goes where its old slot stands in the order, so that who came
+-- from whom is read back from the order. Assumes nothing.
 use Prim.Native.Nat.{ℕ, _≤_}
 use mathlib.Core.Path.{_≡_, refl, sym, ap, _∙_}
 use mathlib.Core.Logic.{_≢_}
@@ -106,7 +106,7 @@ module _ (a : Arena) (w : List ℕ) (order : OrderOf a w) where
             next = λ s h l. rw (new-next s h l) (place-came (at (a .next) (at w s)) (λ z. linked .next (at w s) (order-at a w order s h l) z .0));
           }
 
-    -- ---- the links fill exactly slots 1 to n
+    -- ---- slots 1 to n are the links
 
     module _ (words : length (a .header) ≡ 4) where
       pub new-header : relocate w g a .header ≡ length w ∷ length w ∷ 0 ∷ g ∷ []

@@ -1,2 +1,2 @@
-// Any order that lists the links once each, laid out by `relocate`, is a one-to-one renaming and leaves a well formed arena: said once, for both
-// compressions. Laws alone; there is no code here.
+// Any order that lists the links once each, laid out by `relocate`, renames every link once and leaves a well formed arena: said for both
+// compressions together. Laws alone; there is no code here.

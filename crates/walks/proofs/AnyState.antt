@@ -56,7 +56,7 @@ module _ (a : Arena) where
 
   -- ---- one step
 
-  -- 'a step never answers a slot that is no link', whatever the state words are
+  -- whatever the state words are, a step answers a link or none
   pub step-answers-links : (w : Walk) → (step a w .answer ≡ pointer 0 0) ⊎ (Link a (step a w .answer .slot) × (step a w .answer .generation ≡ at (a .generation) (step a w .answer .slot)))
   step-answers-links w =
       elim (answered-or-ended w) [

@@ -34,11 +34,11 @@ module _ (a : Arena) where
     pub ahead : (at (a .next) x ≡ 0 → ⊥) → (at (a .next) x ≡ o → ⊥) → walked a (suc k) (walk o x 0 (suc left)) ≡ x ∷ walked a k (walk o (at (a .next) x) 0 left)
     ahead some other = goes-on 0 _ (unfold onward in rw (ne-eqb (at (a .next) x) 0 some, ne-eqb (at (a .next) x) o other, sub-one (suc left)) refl)
 
-    -- there is no next: then along prev from the start's prev
+    -- there is no next: it goes on along prev, with the link before the start
     pub turns : Link a o → at (a .next) x ≡ 0 → walked a (suc k) (walk o x 0 (suc left)) ≡ x ∷ walked a k (walk o (at (a .prev) o) 1 left)
     turns lo e = goes-on 0 _ (unfold onward in rw (eq-eqb (at (a .next) x) 0 e, lo, sub-one (suc left)) refl)
 
-    -- the start would return: the walk ends
+    -- next is the start: the walk is over
     pub closes : Link a o → at (a .next) x ≡ o → walked a (suc k) (walk o x 0 (suc left)) ≡ x ∷ walked a k (walk o 0 0 left)
     closes lo e =
         goes-on 0 _ (unfold onward in rw (ne-eqb (at (a .next) x) 0 (λ z. link-nonzero a o lo (sym e ∙ z)), eq-eqb (at (a .next) x) o e, sub-one (suc left)) refl)

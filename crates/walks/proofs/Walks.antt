@@ -1,5 +1,6 @@
--- The walk from a link gives its chain, each link once, in the paper's order, then none. The links after the start are a run along next; those before
--- it, backwards, are a run along prev; and since no link comes twice, the advances left, which begin at the link count, last. Assumes nothing.
+-- The walk from a link gives its chain, each link once, from the link to the chain's end and then from before the link back to its beginning, then
+-- none. The links after the start are a run along next; those before it, backwards, are a run along prev; and since there are no more of them than
+-- the link count, which is how many steps may advance, the steps last. Assumes nothing.
 use Prim.Native.Nat.{ℕ, suc, _+_, _-_, _≤_}
 use mathlib.Core.Path.{_≡_, refl, sym, ap, subst, _∙_}
 use mathlib.Core.List.{List, [], _∷_, _++_, reverse, reverseAux}

@@ -1,13 +1,12 @@
--- The check passes exactly if the arena is well formed, with well formed put as plain facts (one freelist from the root over all free slots that
--- ends in itself; each neighbour is a link that names it back; the counts right). Clause by clause:
+-- The check passes exactly if the arena is well formed, with well formed put as plain facts (REFERENCE, Well-formed arenas). Fact by fact:
 --
 --   one freelist from the root over all free slots that ends in itself    WellFormed.freelist
---   each neighbour is a link that names it back                           WellFormed.prev, WellFormed.next
---   the counts right                                                      WellFormed.links, WellFormed.within
+--   each neighbour is a link that names this one in turn                  WellFormed.prev, WellFormed.next
+--   the counts are right                                                  WellFormed.links, WellFormed.within
 --
--- The other fields are refusals 1 and 2: columns of one length within the limit, a header of four words, a generation of 2 or more.
--- Refusal 1 to 3 is the shape, refusal 4 to 10 the counts and the freelist, and 11 the neighbours; each part is equivalent to its facts by the
--- laws of the definitions, and the verdict is 0 exactly if no part refuses. Assumes nothing.
+-- The other fields are rules 1 and 2: columns of one length within the limit, a header of four words, a generation of 2 or more. Rules 1 to 3 are the
+-- shape, 4 to 10 the counts and the freelist, 11 the neighbours; each part is equivalent to its facts by the laws of the definitions, and the verdict
+-- is 0 exactly if no part refuses. Assumes nothing.
 use Prim.Native.Nat.{ℕ}
 use mathlib.Core.Path.{_≡_, sym}
 use mathlib.Core.Logic.{_↔_}

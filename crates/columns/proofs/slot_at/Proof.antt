@@ -1,4 +1,4 @@
--- `columns::slot_at` meets its contract: slot s is at place s - 1 of a column. Assumes nothing.
+-- `columns::slot_at` meets its contract: the word of slot s has index s - 1. Assumes nothing.
 use native.Mathlib.Omega.{arith}
 use borrow.Author.Needs.{needs}
 use Rattle.definitions.proofs.Columns.{at-place}

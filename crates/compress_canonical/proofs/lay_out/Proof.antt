@@ -1,5 +1,5 @@
--- `compress_canonical::lay_out` meets its contract: the marked columns hold the arena as it is, up to the stack length, and words past it are not lent (Stack).
--- Assumes nothing.
+-- `compress_canonical::lay_out` meets its contract: the marked columns hold the arena as it is, up to the stack length, and what is above that is not
+-- lent (Stack). Assumes nothing.
 use native.Mathlib.Omega.{arith}
 use borrow.Author.Needs.{needs}
 use Rattle.compress_canonical.proofs.Stack.{prev-part, next-part, generation-part, payload-part, from-part, marked-part, is-ready, is-laid-in}

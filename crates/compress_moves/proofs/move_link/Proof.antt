@@ -1,4 +1,4 @@
--- `compress_moves::move_link` meets its contract: slot s is at place s - 1, and its words are read before any is written. Assumes nothing.
+-- `compress_moves::move_link` meets its contract: the words of slot s have index s - 1, and are read before any is written. Assumes nothing.
 use mathlib.Core.Path.{_≡_, refl, ap, _∙_}
 use native.Mathlib.Omega.{arith}
 use borrow.Author.Needs.{needs}

@@ -1,4 +1,4 @@
--- `compress_moves::new_slot` meets its contract: slot s is at place s - 1, and slot 0 reads 0. Assumes nothing.
+-- `compress_moves::new_slot` meets its contract: the word of slot s has index s - 1, and slot 0 reads 0. Assumes nothing.
 use mathlib.Core.Path.{sym}
 use native.Mathlib.Omega.{arith}
 use borrow.Author.Needs.{needs}
