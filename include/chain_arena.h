@@ -253,7 +253,7 @@ chain_arena_plain_result chain_arena_canonicalize_freelist(
     uint32_t *payload, size_t payload_len,
     uint32_t *header, size_t header_len);
 
-/* Applies many edits under one check. A command is five words: its code, then slot and generation of two pointers.
+/* Applies a list of edits after one check. A command is five words: its code, then slot and generation of two pointers.
  *   1   connect: the link at the first becomes the prev of the link at the second
  *   2   break prev, at the first; the second is ignored
  *   3   break next, at the first; the second is ignored

@@ -215,8 +215,8 @@ unsafe extern "C" {
         header: *mut u32, header_len: usize,
     ) -> PlainResult;
 
-    /// Applies commands of five words each (a code, then slot and generation of two pointers) and writes an answer for each.
-    /// 16: the number of command words is not divisible by five; 14: there are more commands than answer words.
+    /// Applies commands of five words each (a code, then slot and generation of two pointers) and writes an answer for
+    /// each. 16: the number of command words is not divisible by five; 14: there are more commands than answer words.
     pub fn chain_arena_run(
         prev: *mut u16, prev_len: usize, next: *mut u16, next_len: usize,
         generation: *mut u32, generation_len: usize, payload: *mut u32, payload_len: usize,

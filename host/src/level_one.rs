@@ -47,8 +47,9 @@ impl<'a> Arena<'a> {
         })
     }
 
-    /// The links of `p`'s chain: from `p` to the end of the chain, then from the link before `p` back to the beginning. Each
-    /// is one proved step, and each step checks the whole arena; for a long chain [`chain`](Self::chain) is much cheaper.
+    /// The links of `p`'s chain: from `p` to the end of the chain, then from the link before `p` back to the beginning.
+    /// Each is one proved step, and each step checks the whole arena; for a long chain [`chain`](Self::chain) is much
+    /// cheaper.
     pub fn walk(&self, p: Ptr) -> Result<Steps<'a>, Refusal> {
         self.walk_start(p).map(|walk| Steps::new(*self, walk))
     }

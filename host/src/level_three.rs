@@ -57,8 +57,8 @@ impl ArenaMut<'_> {
         Ok(CompressedWith { report: self.of_the_links(report.as_chunks().0), overflowed: done.overflowed })
     }
 
-    /// Lays the chains out from slot 1 on, one behind the other, each along next. The where-from column must have the columns'
-    /// length and gets the slot that each link had before.
+    /// Lays the chains out from slot 1 on, one behind the other, each along next. The where-from column must have the
+    /// columns' length and gets the slot that each link had before.
     pub fn compress_canonical<'w>(
         &mut self,
         reset: bool,

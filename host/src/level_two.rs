@@ -1,4 +1,4 @@
-//! Level Two: edits of a lent arena (REFERENCE, from Connect to Run, a section for each call).
+//! Level Two: edits of a lent arena (REFERENCE, the sections from Connect to Run).
 
 use crate::ffi::PlainResult;
 use crate::link::answered_slot;

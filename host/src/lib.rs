@@ -4,7 +4,8 @@
 //! it (Level One), [`ArenaMut`] edits it (Level Two) and compresses it (Level Three). Every call checks the arena first,
 //! answers on any words, and says with a number why it refuses; a refused call has written nothing.
 //!
-//! The manual is docs/REFERENCE.md: what each call does, and what each number means. 'REFERENCE, Drain' names a section of it.
+//! The manual is docs/REFERENCE.md: what each call does, and what each number means. 'REFERENCE, Drain' names its section
+//! on drains.
 //!
 //! ```
 //! use chain_arena::{Arena, Header, Ptr};

@@ -6,8 +6,8 @@ use crate::{Arena, Call, Ptr, Walk, model};
 /// How many arenas of stack length 0, 1, and so on up to 6 pass the check.
 pub const COUNTS: [usize; 7] = [1, 3, 13, 73, 501, 4_051, 37_633];
 
-/// Every arena of a stack length that passes the check, with no room above the stack. All generations are 5, a payload is 100
-/// and the slot, and words that nobody looks at are 0.
+/// Every arena of a stack length that passes the check, with no room above the stack. All generations are 5, a payload is
+/// 100 and the slot, and words that nobody looks at are 0.
 pub fn small_arenas(length: usize) -> Vec<Arena> {
     let mut arenas = Vec::new();
     for links in 0..1 << length {

@@ -1,5 +1,5 @@
-//! Demand 3 as a test of one canonical compression: the points of REFERENCE, What canonical compression keeps, looked at by a
-//! program.
+//! Demand 3 as a test of one canonical compression: the points of REFERENCE, What canonical compression keeps, looked at by
+//! a program.
 
 use std::collections::BTreeMap;
 
@@ -136,8 +136,8 @@ pub fn broken(old: &Arena, new: &Arena, where_from: &[u16]) -> Option<&'static s
     None
 }
 
-/// The first point about further compressions that a later one does not keep, if there is one. Its where-from column is given
-/// if it was not refused.
+/// The first point about further compressions that a later one does not keep, if there is one. Its where-from column is
+/// given if it was not refused.
 pub fn moved(first: &Arena, later: &Arena, where_from: Option<&[u16]>) -> Option<&'static str> {
     let n = first.links();
     if first.header[..3] != later.header[..3] {

@@ -462,7 +462,8 @@ fn compressed(a: &mut Arena) {
     a.header[ROOT] = 0;
 }
 
-/// Order-preserving compression: the links move into the first slots in their order, and the report says from where to where.
+/// Order-preserving compression: the links move into the first slots in their order, and the report says from where to
+/// where.
 fn compress_with(a: &mut Arena, reset: bool, report: &mut [u32]) -> u32 {
     if report.len() < 4 * a.links() {
         return 14;

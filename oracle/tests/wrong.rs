@@ -237,7 +237,7 @@ const WRONG: &[(&str, &str, Wrong)] = &[
         o.arena = Arena { header: o.arena.header.clone(), ..a.clone() };
     }),
     ("compress_canonical", "slot order", |a, _, o| laid_out(a, o, |a| a.link_slots().collect())),
-    ("compress_canonical", "chains by their old lowest slot", |a, _, o| laid_out(a, o, by_lowest)),
+    ("compress_canonical", "chains sorted by their lowest slot", |a, _, o| laid_out(a, o, by_lowest)),
     ("compress_canonical", "a where-from tail that is not zeroed", |a, call, o| where_from(a, call, o, |places, old, n, stack| {
         places[n..stack].copy_from_slice(&old[n..stack]);
     })),

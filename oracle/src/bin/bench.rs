@@ -58,8 +58,8 @@ fn check_section() {
     }
 }
 
-/// 100,000 mixed edits on 2,048 links: one run, its one check in its time, and for each edit the crate's own call, without a
-/// check. The crate's commands are taken apart beforehand, and both sides write an answer for each.
+/// 100,000 mixed edits on 2,048 links: one run, its one check in its time, and for each edit the crate's own call, without
+/// a check. The crate's commands are taken apart beforehand, and both sides write an answer for each.
 fn run_section() {
     println!("run: 100,000 edits (connect, break, exchange) on 2,048 links, nanoseconds an edit");
     let (slots, edits) = (2_048, 100_000);

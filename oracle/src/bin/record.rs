@@ -8,8 +8,8 @@
 //! it.
 //!
 //! The cases come from fixed seeds: all arenas of up to five slots that pass the check, random ones of a few slots,
-//! generations around the largest, noise in words that are not read, and damaged arenas. Of each call and each number that it
-//! answers some are kept, and some more of each mark that a case can have.
+//! generations around the largest, noise in words that are not read, and damaged arenas. Of each call and each number that
+//! it answers some are kept, and some more of each mark that a case can have.
 
 use std::collections::BTreeMap;
 use std::fs;
