@@ -1,41 +1,42 @@
 /* The proved calls of the chain arena, for C. `bash archives OUT` writes the archives (x86-64 Linux) into the folder OUT.
+ * docs/REFERENCE.md is the manual; the sections named below are its own.
  *
- * An arena is lent as five slices, each a pointer and an element count. Slot s is at place s - 1 of the four columns:
- *   prev, next   each link's neighbours, 0 for none; in a free slot next holds the freelist pointer
- *   generation   each link's generation; 0 marks a free slot
- *   payload      each link's payload
- * The header is four words: stack length, link count, freelist root (0 for none), current generation.
+ * An arena is lent as five slices, each a pointer and an element count. Slot s has index s - 1 in the columns:
+ *   prev, next   the neighbours of a link, 0 for none; the next of a free slot is the freelist pointer
+ *   generation   the generation of a link; 0 in a free slot
+ *   payload      the user's word
+ * The header is four words: stack length, link count, freelist root (0 for none), current generation. (Arena)
  *
- * A pointer is a slot and the generation that the link there must have. It is stale if its slot is 0, past the stack or
- * free, or if the generations differ.
+ * A pointer is a slot and a generation. It is good if that slot of the stack has a link of that very generation, else it is
+ * stale. (Pointers and generations)
  *
  * Each C pointer must be aligned for its elements and good for as many of them as its count says, and must not be null,
  * also where the count is 0. Slices of one call must not overlap where the call writes to one of them. Nothing is asked of
  * the words: every call ends and answers on any columns, any header and any arguments.
  *
- * Every result begins with two words:
- *   number   0 done, 100 done with generation overflow, else the refusal by document 01's number
- *   broken   a slot at which rule 11 fails if the number is 11, else 0
- * Every call first gives what the check gives, 1 to 11. A refused call has written nothing, and the further words of its
- * result are 0, but a step hands back its state as it was.
+ * Every result begins with two words (Replies):
+ *   number   0: done; 100: done, and the generation overflowed; any other: refused, and why
+ *   broken   with number 11 a link at which rule 11 fails, else 0
+ * Every call begins with the check and gives its refusal, 1 to 11. A refused call has written nothing, and the further
+ * words of its result are 0; only a step answers its state, as it got it.
  *
- * The refusals:
- *    1  the columns differ in length or hold over 65,535 slots, or the header is not four words
- *    2  the current generation is below 2
- *    3  the link count or the stack length is over the capacity
- *    4  the link count is not the number of allocated slots
- *    5  there is a freelist root although no slot is free, or none although one is
- *    6  the freelist comes to pointer 0
- *    7  the freelist points past the stack
- *    8  the freelist comes to an allocated slot
- *    9  the freelist goes round without a slot that points at itself
- *   10  the freelist ends before it has come to every free slot
- *   11  a link's prev or next is past the stack, free, or does not name it back
- *   12  the pointer is stale
- *   13  the link has a neighbour where none may be, or none where one must be
- *   14  the slice for the answer is too short, or the where-from column has another length
- *   15  a generation below 2 cannot be set
- *   16  the command words are not a multiple of five, or the command's code is unknown
+ * The numbers of the refusals (Numbers):
+ *    1  two columns differ in length or are longer than 65,535, or the header has not four words
+ *    2  the current generation is 0 or 1
+ *    3  the stack length or the link count exceeds the capacity
+ *    4  the link count differs from how many links the stack has
+ *    5  there is a root but no free slot, or a free slot but no root
+ *    6  the freelist names 0 where it must name a slot
+ *    7  the freelist names a slot above the stack
+ *    8  the freelist names a link
+ *    9  the freelist has no end, that is no slot that points at itself
+ *   10  the freelist ends and has missed a free slot
+ *   11  a link names a neighbour that is above the stack or free, or does not name it in turn
+ *   12  a pointer is stale
+ *   13  a neighbour is in the way, or one is missing
+ *   14  the slice to be filled is too short, or the where-from column has not the columns' length
+ *   15  generation 0 or 1 was to be set
+ *   16  the command words are no whole commands, or the code of a command is unknown
  */
 #ifndef CHAIN_ARENA_H
 #define CHAIN_ARENA_H
@@ -53,7 +54,7 @@ typedef struct chain_arena_plain_result {
     uint32_t broken;
 } chain_arena_plain_result;
 
-/* A link with its neighbours' generations; slot 0 and generation 0 where there is no neighbour. */
+/* A link with its neighbours' generations; a neighbour that is not there has slot 0 and generation 0. */
 typedef struct chain_arena_link_result {
     uint32_t number;
     uint32_t broken;
@@ -64,7 +65,7 @@ typedef struct chain_arena_link_result {
     uint32_t payload;
 } chain_arena_link_result;
 
-/* A link, as it is or as it was when it was removed; slot 0 where there is no neighbour. */
+/* A link, as it is or as it was before it was removed; slot 0 where there is no neighbour. */
 typedef struct chain_arena_link_no_gen_result {
     uint32_t number;
     uint32_t broken;
@@ -80,8 +81,8 @@ typedef struct chain_arena_neighbors_result {
     uint32_t yes;
 } chain_arena_neighbors_result;
 
-/* The state of a walk: where it began, the slot that the next step answers (0: it has ended), the direction (0 is next, any
- * other is prev), and the advances left, which begin at the link count. Any words are a state. */
+/* The state of a walk: the slot it began at, the slot that the next step will answer (0: the walk is over), the direction
+ * (0: along next, any other word: along prev), and how many more steps may advance. Any words are a state. */
 typedef struct chain_arena_walk_result {
     uint32_t number;
     uint32_t broken;
@@ -91,7 +92,7 @@ typedef struct chain_arena_walk_result {
     uint32_t left;
 } chain_arena_walk_result;
 
-/* What a step answers, slot 0 and generation 0 for none, and the next state. */
+/* What a step answers, slot 0 and generation 0 for none, and the state after it. */
 typedef struct chain_arena_step_result {
     uint32_t number;
     uint32_t broken;
@@ -103,7 +104,7 @@ typedef struct chain_arena_step_result {
     uint32_t left;
 } chain_arena_step_result;
 
-/* How many links a drain removed, and the one of them, from 1, whose removal overflowed; 0 if none did. */
+/* How many links a drain removed, and which of them, counted from 1, made the generation overflow; 0 if none did. */
 typedef struct chain_arena_drain_result {
     uint32_t number;
     uint32_t broken;
@@ -113,7 +114,7 @@ typedef struct chain_arena_drain_result {
 
 /* Level One: liblevel_one.a */
 
-/* Whether the lent arena is whole: 0, else 1 to 11. */
+/* Whether the arena can be worked with: 0, else the first rule that fails, 1 to 11. (Check) */
 chain_arena_plain_result chain_arena_check(
     const uint16_t *prev, size_t prev_len,
     const uint16_t *next, size_t next_len,
@@ -121,7 +122,7 @@ chain_arena_plain_result chain_arena_check(
     const uint32_t *payload, size_t payload_len,
     const uint32_t *header, size_t header_len);
 
-/* The link at p and its neighbours with their generations. 12: p is stale. */
+/* The link at p and its neighbours with their generations. 12: p is stale. (Reading) */
 chain_arena_link_result chain_arena_get_link(
     const uint16_t *prev, size_t prev_len,
     const uint16_t *next, size_t next_len,
@@ -139,7 +140,7 @@ chain_arena_link_no_gen_result chain_arena_get_link_no_gen(
     const uint32_t *header, size_t header_len,
     uint16_t p_slot, uint32_t p_generation);
 
-/* Whether the next of p_prev is p_next; no where either is stale. */
+/* Whether the next of p_prev is p_next; 0 if one of them is stale. */
 chain_arena_neighbors_result chain_arena_are_neighbors(
     const uint16_t *prev, size_t prev_len,
     const uint16_t *next, size_t next_len,
@@ -148,7 +149,7 @@ chain_arena_neighbors_result chain_arena_are_neighbors(
     const uint32_t *header, size_t header_len,
     uint16_t p_prev_slot, uint32_t p_prev_generation, uint16_t p_next_slot, uint32_t p_next_generation);
 
-/* A walk that begins at p. 12: p is stale. */
+/* A walk that begins at p. 12: p is stale. (Walk) */
 chain_arena_walk_result chain_arena_walk_start(
     const uint16_t *prev, size_t prev_len,
     const uint16_t *next, size_t next_len,
@@ -157,8 +158,8 @@ chain_arena_walk_result chain_arena_walk_start(
     const uint32_t *header, size_t header_len,
     uint16_t p_slot, uint32_t p_generation);
 
-/* One step of a walk: the link at the position, or none, and the next state. It goes along next from the start, then along
- * prev from the start's prev; on a closed chain it ends before its start returns. */
+/* One step of a walk: the link at the position, or none, and the state after it. A walk goes from its start to the end of
+ * the chain, then from the link before the start back to the beginning; a closed chain is gone round once. */
 chain_arena_step_result chain_arena_walk_step(
     const uint16_t *prev, size_t prev_len,
     const uint16_t *next, size_t next_len,
@@ -169,8 +170,8 @@ chain_arena_step_result chain_arena_walk_step(
 
 /* Level Two: liblevel_two.a */
 
-/* Joins the end p_prev to the start p_next. In this order 12: p_prev is stale; 13: it has a next; 12: p_next is stale; 13:
- * it has a prev. */
+/* Makes p_next the next of p_prev. First 12 or 13: p_prev is stale, or has a next; then 12 or 13: p_next is stale, or has a
+ * prev. (Connect) */
 chain_arena_plain_result chain_arena_connect(
     uint16_t *prev, size_t prev_len,
     uint16_t *next, size_t next_len,
@@ -179,7 +180,7 @@ chain_arena_plain_result chain_arena_connect(
     const uint32_t *header, size_t header_len,
     uint16_t p_prev_slot, uint32_t p_prev_generation, uint16_t p_next_slot, uint32_t p_next_generation);
 
-/* Parts the link at p from its prev. 12: p is stale; 13: it has no prev. */
+/* Parts the link at p from the one before it. 12: p is stale; 13: there is none. (Break) */
 chain_arena_plain_result chain_arena_break_prev(
     uint16_t *prev, size_t prev_len,
     uint16_t *next, size_t next_len,
@@ -188,7 +189,7 @@ chain_arena_plain_result chain_arena_break_prev(
     const uint32_t *header, size_t header_len,
     uint16_t p_slot, uint32_t p_generation);
 
-/* Parts the link at p from its next. 12: p is stale; 13: it has no next. */
+/* Parts the link at p from the one after it. 12: p is stale; 13: there is none. (Break) */
 chain_arena_plain_result chain_arena_break_next(
     uint16_t *prev, size_t prev_len,
     uint16_t *next, size_t next_len,
@@ -197,7 +198,7 @@ chain_arena_plain_result chain_arena_break_next(
     const uint32_t *header, size_t header_len,
     uint16_t p_slot, uint32_t p_generation);
 
-/* Exchanges what comes after the links at p0 and p1. 12: either is stale; 13: either has no next. */
+/* Gives each of the links at p0 and p1 the other one's next. 12: one is stale; 13: one has no next. (Exchange) */
 chain_arena_plain_result chain_arena_exchange_next(
     uint16_t *prev, size_t prev_len,
     uint16_t *next, size_t next_len,
@@ -206,8 +207,8 @@ chain_arena_plain_result chain_arena_exchange_next(
     const uint32_t *header, size_t header_len,
     uint16_t p0_slot, uint32_t p0_generation, uint16_t p1_slot, uint32_t p1_generation);
 
-/* Removes the link at p, joins its neighbours, raises the generation (100: it overflowed) and answers the link as it was.
- * 12: p is stale. */
+/* Takes the link at p out, joins its neighbours, raises the generation (100: it overflowed) and answers what the link was.
+ * 12: p is stale. (Remove) */
 chain_arena_link_no_gen_result chain_arena_remove(
     uint16_t *prev, size_t prev_len,
     uint16_t *next, size_t next_len,
@@ -216,8 +217,8 @@ chain_arena_link_no_gen_result chain_arena_remove(
     uint32_t *header, size_t header_len,
     uint16_t p_slot, uint32_t p_generation);
 
-/* Removes p's whole chain in the walk's order. The report gets five words for each link: slot, generation, and prev, next
- * and payload as they are at its own removal. 12: p is stale; 14: the report is too short. */
+/* Removes all links of p's chain in the order of a walk from p. The report gets five words for each: slot, generation, prev
+ * and next when its turn comes, payload. 12: p is stale; 14: the report is too short. (Drain) */
 chain_arena_drain_result chain_arena_drain(
     uint16_t *prev, size_t prev_len,
     uint16_t *next, size_t next_len,
@@ -227,7 +228,7 @@ chain_arena_drain_result chain_arena_drain(
     uint16_t p_slot, uint32_t p_generation,
     uint32_t *report, size_t report_len);
 
-/* Sets the current generation. 15: it is below 2. */
+/* Sets the current generation. 15: it was to be 0 or 1. (Generation) */
 chain_arena_plain_result chain_arena_set_generation(
     const uint16_t *prev, size_t prev_len,
     const uint16_t *next, size_t next_len,
@@ -236,7 +237,7 @@ chain_arena_plain_result chain_arena_set_generation(
     uint32_t *header, size_t header_len,
     uint32_t new_generation);
 
-/* Raises the current generation. 100: it overflowed, from 4,294,967,295 to 2. */
+/* Raises the current generation. 100: it overflowed, from 4,294,967,295 to 2. (Generation) */
 chain_arena_plain_result chain_arena_inc_generation(
     const uint16_t *prev, size_t prev_len,
     const uint16_t *next, size_t next_len,
@@ -244,7 +245,7 @@ chain_arena_plain_result chain_arena_inc_generation(
     const uint32_t *payload, size_t payload_len,
     uint32_t *header, size_t header_len);
 
-/* Pops free end slots, then lists the rest in rising order, the highest pointing at itself. */
+/* Pops the free slots above the highest link and links the others in rising order from the root on. (Freelist) */
 chain_arena_plain_result chain_arena_canonicalize_freelist(
     uint16_t *prev, size_t prev_len,
     uint16_t *next, size_t next_len,
@@ -252,10 +253,15 @@ chain_arena_plain_result chain_arena_canonicalize_freelist(
     uint32_t *payload, size_t payload_len,
     uint32_t *header, size_t header_len);
 
-/* Applies commands of five words each under one check: code, then two slots each followed by its generation. Codes: 1
- * connect, 2 break prev, 3 break next, 4 exchange, 5 remove; 2, 3 and 5 ignore the second pointer. Each command gets an
- * answer word: 0 done, 100 done with generation overflow, 12, 13, or 16 for another code; a refused command changes nothing
- * and the run goes on. 16: the commands are not a multiple of five words; 14: there are fewer answers than commands. */
+/* Applies a list of edits after one check. A command is five words: its code, then slot and generation of two pointers.
+ *   1   connect: the link at the first becomes the prev of the link at the second
+ *   2   break prev, at the first; the second is ignored
+ *   3   break next, at the first; the second is ignored
+ *   4   exchange next, of both
+ *   5   remove the link at the first; the second is ignored
+ * The answer word of a command is the number that the edit's own call would give, or 16 for an unknown code. After a
+ * command that is refused the next one is applied all the same. Of the whole run 16: the number of command words is not
+ * divisible by five; 14: there are more commands than answer words. (Run) */
 chain_arena_plain_result chain_arena_run(
     uint16_t *prev, size_t prev_len,
     uint16_t *next, size_t next_len,
@@ -267,8 +273,9 @@ chain_arena_plain_result chain_arena_run(
 
 /* Level Three: liblevel_three.a */
 
-/* Moves the links down in slot order. The report gets four words for each link: old slot and generation, new slot and
- * generation. The generation is raised (100: it overflowed), or set to 2 if reset is not 0. 14: the report is too short. */
+/* Moves the links into the first slots and keeps their order. The report gets four words for each link: its slot and
+ * generation before, and its slot and generation afterwards. The generation is raised (100: it overflowed), but stays if
+ * there is no link; if reset is not 0 it becomes 2. 14: the report is too short. (Order-preserving compression) */
 chain_arena_plain_result chain_arena_compress_with(
     uint16_t *prev, size_t prev_len,
     uint16_t *next, size_t next_len,
@@ -278,9 +285,10 @@ chain_arena_plain_result chain_arena_compress_with(
     uint32_t reset,
     uint32_t *report, size_t report_len);
 
-/* Lays the chains out one after the other from slot 1 on, each in next order. The where-from column gets the old slot of
- * each link, then zeros up to the old stack length. The generation is raised (100: it overflowed), or set to 2 if reset is
- * not 0. 14: the where-from column is not as long as the others. */
+/* Lays the chains out from slot 1 on, one behind the other, each along next. The where-from column gets the slot that each
+ * link had before, then zeros for the other slots that the stack had. The generation is raised (100: it overflowed), but
+ * stays if there is no link; if reset is not 0 it becomes 2. 14: the where-from column has not the columns' length.
+ * (Canonical compression) */
 chain_arena_plain_result chain_arena_compress_canonical(
     uint16_t *prev, size_t prev_len,
     uint16_t *next, size_t next_len,

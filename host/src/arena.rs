@@ -1,8 +1,8 @@
-//! The lent arena: four columns and a header.
+//! The lent arena: four columns and a header (REFERENCE, Arena).
 
 use crate::Slot;
 
-/// A lent arena to read. Slot s is at place s - 1 of the four columns.
+/// A lent arena to read. Slot s has index s - 1 in the four columns.
 ///
 /// Its calls are those of Level One. They write nothing, so it does no harm if two of the slices are the same memory.
 #[derive(Clone, Copy, Debug)]
@@ -11,15 +11,15 @@ pub struct Arena<'a> {
     pub prev: &'a [Slot],
     /// Each link's neighbour after it, 0 for none; in a free slot the freelist pointer
     pub next: &'a [Slot],
-    /// Each link's generation; 0 marks a free slot
+    /// Each link's generation, 0 in a free slot
     pub generation: &'a [u32],
-    /// Each link's payload
+    /// Each link's payload, the user's own word
     pub payload: &'a [u32],
     /// The words of a [`Header`]
     pub header: &'a [u32],
 }
 
-/// A lent arena to edit and to compress. Slot s is at place s - 1 of the four columns.
+/// A lent arena to edit and to compress. Slot s has index s - 1 in the four columns.
 ///
 /// Its calls are those of Levels Two and Three; [`as_arena`](Self::as_arena) leads to those of Level One.
 #[derive(Debug)]
@@ -28,9 +28,9 @@ pub struct ArenaMut<'a> {
     pub prev: &'a mut [Slot],
     /// Each link's neighbour after it, 0 for none; in a free slot the freelist pointer
     pub next: &'a mut [Slot],
-    /// Each link's generation; 0 marks a free slot
+    /// Each link's generation, 0 in a free slot
     pub generation: &'a mut [u32],
-    /// Each link's payload
+    /// Each link's payload, the user's own word
     pub payload: &'a mut [u32],
     /// The words of a [`Header`]
     pub header: &'a mut [u32],
@@ -61,9 +61,9 @@ impl ArenaMut<'_> {
 /// ```
 #[derive(Clone, Copy, Debug, PartialEq, Eq)]
 pub struct Header {
-    /// The slots that are free or allocated are 1 up to this one
+    /// The stack is the slots from 1 up to this one; each of them is a link or free
     pub stack_length: u32,
-    /// The number of allocated slots
+    /// How many links the stack has
     pub link_count: u32,
     /// The first slot of the freelist, 0 for none
     pub root: u32,

@@ -1,14 +1,15 @@
 //! The exported calls as the archives have them. A lent slice crosses as a pointer and an element count; an answer is a
-//! struct by value. The same calls stand in include/chain_arena.h.
+//! struct by value. The same calls stand in include/chain_arena.h, and docs/REFERENCE.md is the manual of all of them.
 //!
-//! Every result begins with `number` (0 done, 100 done with generation overflow, else document 01's refusal) and `broken`
-//! (the slot that 11 names, else 0). On a refusal every further field is 0, but a step hands back its state as it was.
+//! Every result begins with `number` (0: done, 100: done, and the generation overflowed, any other: refused, and why) and
+//! `broken` (with 11 a link at which rule 11 fails, else 0). In a refusal every further field is 0; only a step answers its
+//! state, as it got it.
 //!
 //! # Safety
 //!
-//! Each pointer must be good for as many elements as the count after it says, also where the count is 0, and no two slices
-//! of one call may overlap if the call writes to one of them. Nothing is asked of the words themselves: every call ends and
-//! answers on any columns and any header.
+//! Each pointer must be aligned for its elements, good for as many of them as the count after it says, and not null even
+//! where the count is 0; and no two slices of one call may overlap if the call writes to one of them. Nothing is asked of
+//! the words themselves: every call ends and answers on any columns and any header.
 
 /// The answer of a call that answers a number and nothing else.
 #[repr(C)]
@@ -18,7 +19,7 @@ pub struct PlainResult {
     pub broken: u32,
 }
 
-/// A link with its neighbours' generations; slot 0 and generation 0 where there is no neighbour.
+/// A link with its neighbours' generations; a neighbour that is not there has slot 0 and generation 0.
 #[repr(C)]
 #[derive(Clone, Copy, Debug, PartialEq, Eq)]
 pub struct LinkResult {
@@ -31,7 +32,7 @@ pub struct LinkResult {
     pub payload: u32,
 }
 
-/// A link, as it is or as it was when it was removed; slot 0 where there is no neighbour.
+/// A link, as it is or as it was before it was removed; slot 0 where there is no neighbour.
 #[repr(C)]
 #[derive(Clone, Copy, Debug, PartialEq, Eq)]
 pub struct LinkNoGenResult {
@@ -63,7 +64,7 @@ pub struct WalkResult {
     pub left: u32,
 }
 
-/// What a step answers, slot 0 and generation 0 for none, and the next state.
+/// What a step answers, slot 0 and generation 0 for none, and the state after it.
 #[repr(C)]
 #[derive(Clone, Copy, Debug, PartialEq, Eq)]
 pub struct StepResult {
@@ -77,7 +78,7 @@ pub struct StepResult {
     pub left: u32,
 }
 
-/// How many links a drain removed, and the one of them, from 1, whose removal overflowed; 0 if none did.
+/// How many links a drain removed, and which of them, counted from 1, made the generation overflow; 0 if none did.
 #[repr(C)]
 #[derive(Clone, Copy, Debug, PartialEq, Eq)]
 pub struct DrainResult {
@@ -91,7 +92,7 @@ pub struct DrainResult {
 #[cfg(feature = "level-one")]
 #[rustfmt::skip]
 unsafe extern "C" {
-    /// Whether the lent arena is whole: 0, else 1 to 11. Every other call first makes this check.
+    /// Whether the arena can be worked with: 0, else the first rule that fails, 1 to 11. Every other call begins with it.
     pub fn chain_arena_check(
         prev: *const u16, prev_len: usize, next: *const u16, next_len: usize,
         generation: *const u32, generation_len: usize, payload: *const u32, payload_len: usize,
@@ -114,7 +115,7 @@ unsafe extern "C" {
         p_slot: u16, p_generation: u32,
     ) -> LinkNoGenResult;
 
-    /// Whether the next of p_prev is p_next; no where either is stale.
+    /// Whether the next of p_prev is p_next; 0 if one of them is stale.
     pub fn chain_arena_are_neighbors(
         prev: *const u16, prev_len: usize, next: *const u16, next_len: usize,
         generation: *const u32, generation_len: usize, payload: *const u32, payload_len: usize,
@@ -130,7 +131,7 @@ unsafe extern "C" {
         p_slot: u16, p_generation: u32,
     ) -> WalkResult;
 
-    /// One step of a walk in any state; direction 0 is next, any other is prev.
+    /// One step of a walk in any state; direction 0 is along next, any other word along prev.
     pub fn chain_arena_walk_step(
         prev: *const u16, prev_len: usize, next: *const u16, next_len: usize,
         generation: *const u32, generation_len: usize, payload: *const u32, payload_len: usize,
@@ -143,7 +144,7 @@ unsafe extern "C" {
 #[cfg(feature = "level-two")]
 #[rustfmt::skip]
 unsafe extern "C" {
-    /// Joins the end p_prev to the start p_next. 12, 13: p_prev is stale, or has a next; then p_next is, or has a prev.
+    /// Makes p_next the next of p_prev. 12, 13: p_prev is stale, or has a next; then p_next is stale, or has a prev.
     pub fn chain_arena_connect(
         prev: *mut u16, prev_len: usize, next: *mut u16, next_len: usize,
         generation: *const u32, generation_len: usize, payload: *const u32, payload_len: usize,
@@ -151,7 +152,7 @@ unsafe extern "C" {
         p_prev_slot: u16, p_prev_generation: u32, p_next_slot: u16, p_next_generation: u32,
     ) -> PlainResult;
 
-    /// Parts the link at p from its prev. 12: p is stale; 13: it has no prev.
+    /// Parts the link at p from the one before it. 12: p is stale; 13: there is none.
     pub fn chain_arena_break_prev(
         prev: *mut u16, prev_len: usize, next: *mut u16, next_len: usize,
         generation: *const u32, generation_len: usize, payload: *const u32, payload_len: usize,
@@ -159,7 +160,7 @@ unsafe extern "C" {
         p_slot: u16, p_generation: u32,
     ) -> PlainResult;
 
-    /// Parts the link at p from its next. 12: p is stale; 13: it has no next.
+    /// Parts the link at p from the one after it. 12: p is stale; 13: there is none.
     pub fn chain_arena_break_next(
         prev: *mut u16, prev_len: usize, next: *mut u16, next_len: usize,
         generation: *const u32, generation_len: usize, payload: *const u32, payload_len: usize,
@@ -167,7 +168,7 @@ unsafe extern "C" {
         p_slot: u16, p_generation: u32,
     ) -> PlainResult;
 
-    /// Exchanges what comes after the links at p0 and p1. 12: either is stale; 13: either has no next.
+    /// Gives each of the links at p0 and p1 the other one's next. 12: one is stale; 13: one has no next.
     pub fn chain_arena_exchange_next(
         prev: *mut u16, prev_len: usize, next: *mut u16, next_len: usize,
         generation: *const u32, generation_len: usize, payload: *const u32, payload_len: usize,
@@ -175,7 +176,7 @@ unsafe extern "C" {
         p0_slot: u16, p0_generation: u32, p1_slot: u16, p1_generation: u32,
     ) -> PlainResult;
 
-    /// Removes the link at p, joins its neighbours and answers it as it was. 12: p is stale.
+    /// Takes the link at p out, joins its neighbours and answers what it was. 12: p is stale.
     pub fn chain_arena_remove(
         prev: *mut u16, prev_len: usize, next: *mut u16, next_len: usize,
         generation: *mut u32, generation_len: usize, payload: *mut u32, payload_len: usize,
@@ -183,8 +184,8 @@ unsafe extern "C" {
         p_slot: u16, p_generation: u32,
     ) -> LinkNoGenResult;
 
-    /// Removes p's whole chain in the walk's order; five words of the report for each link: slot, generation, and prev,
-    /// next and payload as they are at its own removal. 12: p is stale; 14: the report is too short.
+    /// Removes all links of p's chain in the order of a walk from p; five words of the report for each: slot, generation,
+    /// prev and next when its turn comes, payload. 12: p is stale; 14: the report is too short.
     pub fn chain_arena_drain(
         prev: *mut u16, prev_len: usize, next: *mut u16, next_len: usize,
         generation: *mut u32, generation_len: usize, payload: *mut u32, payload_len: usize,
@@ -192,7 +193,7 @@ unsafe extern "C" {
         p_slot: u16, p_generation: u32, report: *mut u32, report_len: usize,
     ) -> DrainResult;
 
-    /// Sets the current generation. 15: it is below 2.
+    /// Sets the current generation. 15: it was to be 0 or 1.
     pub fn chain_arena_set_generation(
         prev: *const u16, prev_len: usize, next: *const u16, next_len: usize,
         generation: *const u32, generation_len: usize, payload: *const u32, payload_len: usize,
@@ -207,15 +208,15 @@ unsafe extern "C" {
         header: *mut u32, header_len: usize,
     ) -> PlainResult;
 
-    /// Pops free end slots, then lists the rest in rising order, the highest pointing at itself.
+    /// Pops the free slots above the highest link and links the others in rising order from the root on.
     pub fn chain_arena_canonicalize_freelist(
         prev: *mut u16, prev_len: usize, next: *mut u16, next_len: usize,
         generation: *mut u32, generation_len: usize, payload: *mut u32, payload_len: usize,
         header: *mut u32, header_len: usize,
     ) -> PlainResult;
 
-    /// Applies commands of five words each (code, then two slots each followed by its generation) and writes an answer for
-    /// each. 16: the commands are not a multiple of five words; 14: there are fewer answers than commands.
+    /// Applies commands of five words each (a code, then slot and generation of two pointers) and writes an answer for
+    /// each. 16: the number of command words is not divisible by five; 14: there are more commands than answer words.
     pub fn chain_arena_run(
         prev: *mut u16, prev_len: usize, next: *mut u16, next_len: usize,
         generation: *mut u32, generation_len: usize, payload: *mut u32, payload_len: usize,
@@ -228,8 +229,8 @@ unsafe extern "C" {
 #[cfg(feature = "level-three")]
 #[rustfmt::skip]
 unsafe extern "C" {
-    /// Moves the links down in slot order; four words of the report for each: old slot and generation, new slot and
-    /// generation. Any reset but 0 sets the generation to 2. 14: the report is too short.
+    /// Moves the links into the first slots and keeps their order; four words of the report for each: slot and generation
+    /// before, slot and generation afterwards. Any reset but 0 makes the generation 2. 14: the report is too short.
     pub fn chain_arena_compress_with(
         prev: *mut u16, prev_len: usize, next: *mut u16, next_len: usize,
         generation: *mut u32, generation_len: usize, payload: *mut u32, payload_len: usize,
@@ -237,8 +238,8 @@ unsafe extern "C" {
         reset: u32, report: *mut u32, report_len: usize,
     ) -> PlainResult;
 
-    /// Lays the chains out one after the other from slot 1 on, and says where each link came from. Any reset but 0 sets the
-    /// generation to 2. 14: the where-from column is not as long as the others.
+    /// Lays the chains out from slot 1 on, one behind the other, and writes down which slot each link had before. Any reset
+    /// but 0 makes the generation 2. 14: the where-from column has not the columns' length.
     pub fn chain_arena_compress_canonical(
         prev: *mut u16, prev_len: usize, next: *mut u16, next_len: usize,
         generation: *mut u32, generation_len: usize, payload: *mut u32, payload_len: usize,

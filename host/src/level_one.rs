@@ -1,10 +1,10 @@
-//! Level One: the check of an arena, the reading of links and neighbours, and the start of a walk.
+//! Level One: checking an arena, reading links and neighbours, starting a walk (REFERENCE, Check, Reading and Walk).
 
 use crate::{Arena, Chain, Done, Link, LinkNoGen, Ptr, Refusal, Steps, Walk};
 
 /// The calls of Level One.
 impl<'a> Arena<'a> {
-    /// Passes exactly if the arena is whole, else says which rule it breaks first.
+    /// Passes exactly if the arena is well formed, else says which rule it breaks first.
     pub fn check(&self) -> Result<(), Refusal> {
         let answer = call!(chain_arena_check(self, as_ptr));
         Done::of(answer.number, answer.broken).map(|_| ())
@@ -22,7 +22,7 @@ impl<'a> Arena<'a> {
         Done::of(answer.number, answer.broken).map(|_| answer.into())
     }
 
-    /// Whether the next of `p_prev` is `p_next`; no where either is stale.
+    /// Whether the next of `p_prev` is `p_next`; false if one of them is stale.
     pub fn are_neighbors(&self, p_prev: Ptr, p_next: Ptr) -> Result<bool, Refusal> {
         let answer = call!(chain_arena_are_neighbors(
             self,
@@ -47,8 +47,9 @@ impl<'a> Arena<'a> {
         })
     }
 
-    /// The links of `p`'s chain: along next from `p`, then along prev from its prev. Each is one proved step, and each step
-    /// checks the whole arena; for a long chain [`chain`](Self::chain) is much cheaper.
+    /// The links of `p`'s chain: from `p` to the end of the chain, then from the link before `p` back to the beginning.
+    /// Each is one proved step, and each step checks the whole arena; for a long chain [`chain`](Self::chain) is much
+    /// cheaper.
     pub fn walk(&self, p: Ptr) -> Result<Steps<'a>, Refusal> {
         self.walk_start(p).map(|walk| Steps::new(*self, walk))
     }

@@ -1,9 +1,9 @@
-//! Level Three: the compressions of a lent arena.
+//! Level Three: the compressions of a lent arena (REFERENCE, Compression).
 
 use crate::{ArenaMut, Done, Header, Ptr, Refusal, Slot};
 
-/// The calls of Level Three. Both raise the current generation, or set it to 2 where `reset` is given, and every link gets
-/// it.
+/// The calls of Level Three. Both give every link a new current generation: the one after the old, or 2 where `reset` is
+/// given. Without links and without `reset` it stays.
 ///
 /// ```
 /// use chain_arena::ArenaMut;
@@ -25,7 +25,8 @@ use crate::{ArenaMut, Done, Header, Ptr, Refusal, Slot};
 /// # Ok::<(), chain_arena::Refusal>(())
 /// ```
 impl ArenaMut<'_> {
-    /// Moves the links down in slot order. The report needs four words for each link. It cannot be part of the arena:
+    /// Moves the links into the first slots and keeps their order. The report needs four words for each link. It cannot be
+    /// part of the arena:
     ///
     /// ```compile_fail,E0499
     /// # use chain_arena::ArenaMut;
@@ -56,8 +57,8 @@ impl ArenaMut<'_> {
         Ok(CompressedWith { report: self.of_the_links(report.as_chunks().0), overflowed: done.overflowed })
     }
 
-    /// Lays the chains out one after the other from slot 1 on, each in next order. The where-from column, as long as the
-    /// others, gets each link's old slot.
+    /// Lays the chains out from slot 1 on, one behind the other, each along next. The where-from column must have the
+    /// columns' length and gets the slot that each link had before.
     pub fn compress_canonical<'w>(
         &mut self,
         reset: bool,
@@ -84,7 +85,7 @@ impl ArenaMut<'_> {
 /// What an order-preserving compression did.
 #[derive(Clone, Copy, Debug, PartialEq, Eq)]
 pub struct CompressedWith<'r> {
-    /// Four words for each link, in slot order: old slot, old generation, new slot, new generation
+    /// Four words for each link, in slot order: its slot and generation before, its slot and generation afterwards
     pub report: &'r [[u32; 4]],
     /// Whether the current generation overflowed
     pub overflowed: bool,
@@ -112,7 +113,7 @@ pub struct Moved {
 /// What a canonical compression did.
 #[derive(Clone, Copy, Debug, PartialEq, Eq)]
 pub struct CompressedCanonical<'w> {
-    /// The old slot of each link, by its new one: that of the link now in slot s is at place s - 1
+    /// The slot that each link had before, by its new one: that of the link now in slot s has index s - 1
     pub where_from: &'w [Slot],
     /// Whether the current generation overflowed
     pub overflowed: bool,

@@ -1,4 +1,4 @@
-//! Level Two: edits of a lent arena.
+//! Level Two: edits of a lent arena (REFERENCE, the sections from Connect to Run).
 
 use crate::ffi::PlainResult;
 use crate::link::answered_slot;
@@ -31,7 +31,7 @@ use crate::{Answer, ArenaMut, Done, LinkNoGen, Ptr, Refusal, Run, Slot};
 /// # Ok::<(), chain_arena::Refusal>(())
 /// ```
 impl ArenaMut<'_> {
-    /// Joins the end `p_prev` to the start `p_next`; a lone link joined to itself is a closed chain.
+    /// Makes `p_next` the next of `p_prev`; a lone link that is connected to itself becomes a closed chain of one.
     pub fn connect(&mut self, p_prev: Ptr, p_next: Ptr) -> Result<(), Refusal> {
         plain(call!(chain_arena_connect(
             self,
@@ -43,17 +43,17 @@ impl ArenaMut<'_> {
         )))
     }
 
-    /// Parts the link at `p` from its prev.
+    /// Parts the link at `p` from the one before it.
     pub fn break_prev(&mut self, p: Ptr) -> Result<(), Refusal> {
         plain(call!(chain_arena_break_prev(self, as_mut_ptr, p.slot, p.generation)))
     }
 
-    /// Parts the link at `p` from its next.
+    /// Parts the link at `p` from the one after it.
     pub fn break_next(&mut self, p: Ptr) -> Result<(), Refusal> {
         plain(call!(chain_arena_break_next(self, as_mut_ptr, p.slot, p.generation)))
     }
 
-    /// Exchanges what comes after the links at `p0` and `p1`.
+    /// Gives each of the links at `p0` and `p1` the other one's next.
     pub fn exchange_next(&mut self, p0: Ptr, p1: Ptr) -> Result<(), Refusal> {
         plain(call!(chain_arena_exchange_next(
             self,
@@ -65,14 +65,14 @@ impl ArenaMut<'_> {
         )))
     }
 
-    /// Removes the link at `p` and joins its neighbours.
+    /// Takes the link at `p` out and joins its neighbours.
     pub fn remove(&mut self, p: Ptr) -> Result<Removed, Refusal> {
         let answer = call!(chain_arena_remove(self, as_mut_ptr, p.slot, p.generation));
         let done = Done::of(answer.number, answer.broken)?;
         Ok(Removed { link: answer.into(), overflowed: done.overflowed })
     }
 
-    /// Removes the whole chain of `p` in the walk's order. The report needs five words for each link of the chain.
+    /// Removes all links of `p`'s chain in the order of a walk from `p`. The report needs five words for each of them.
     pub fn drain<'r>(&mut self, p: Ptr, report: &'r mut [u32]) -> Result<Drained<'r>, Refusal> {
         let answer = call!(chain_arena_drain(
             self,
@@ -99,13 +99,13 @@ impl ArenaMut<'_> {
         Done::of(answer.number, answer.broken)
     }
 
-    /// Pops free end slots, then lists the rest in rising order.
+    /// Pops the free slots above the highest link and links the others in rising order from the root on.
     pub fn canonicalize_freelist(&mut self) -> Result<(), Refusal> {
         plain(call!(chain_arena_canonicalize_freelist(self, as_mut_ptr)))
     }
 
-    /// Applies the commands of a run under one check, and answers each command with what became of it. A refused command
-    /// changes nothing and the run goes on. The run keeps its commands.
+    /// Applies the commands of a run under one check, and answers each command with what became of it. After a command that
+    /// is refused the next one is applied all the same. The run keeps its commands.
     pub fn run<'r>(
         &mut self,
         run: &'r mut Run<'_>,
@@ -149,7 +149,7 @@ pub struct Removed {
 pub struct Drained<'r> {
     /// Five words for each link, in the walk's order: slot, generation, prev, next, payload
     pub report: &'r [[u32; 5]],
-    /// The link, from 1, at whose removal the current generation overflowed
+    /// Which of the links, counted from 1, made the current generation overflow
     pub overflowed: Option<u32>,
 }
 
@@ -158,7 +158,7 @@ pub struct Drained<'r> {
 pub struct DrainedLink {
     /// The pointer that named it
     pub ptr: Ptr,
-    /// The link as it was at its own removal
+    /// The link when its turn came, so that links removed before it are named no more
     pub link: LinkNoGen,
 }
 

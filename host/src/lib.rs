@@ -2,7 +2,10 @@
 //!
 //! An arena is lent as five slices: prev, next, generation and payload by slot, and a header of four words. [`Arena`] reads
 //! it (Level One), [`ArenaMut`] edits it (Level Two) and compresses it (Level Three). Every call checks the arena first,
-//! answers on any words, and refuses by document 01's numbers; a refused call has written nothing.
+//! answers on any words, and says with a number why it refuses; a refused call has written nothing.
+//!
+//! The manual is docs/REFERENCE.md: what each call does, and what each number means. 'REFERENCE, Drain' names its section
+//! on drains.
 //!
 //! ```
 //! use chain_arena::{Arena, Header, Ptr};

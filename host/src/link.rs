@@ -1,4 +1,4 @@
-//! Pointers and links as the calls answer them.
+//! Pointers and links as the calls answer them (REFERENCE, Pointers and generations, and Reading).
 
 use crate::ffi::{LinkNoGenResult, LinkResult};
 

@@ -1,4 +1,4 @@
-//! What a call answers first: that it was done, or what it refuses, by document 01's number and in words.
+//! What a call answers first: that it was done, or why it was refused, as a number and in words (REFERENCE, Numbers).
 
 use core::error::Error;
 use core::fmt;
@@ -47,7 +47,7 @@ impl Done {
 /// assert_eq!((refusal.number(), refusal.slot()), (11, Some(1)));
 /// assert_eq!(
 ///     refusal.to_string(),
-///     "refused with 11 at slot 1: a link's prev or next is past the stack, free, or does not name it back",
+///     "refused with 11 at slot 1: a link names a neighbour that is above the stack or free, or does not name it in turn",
 /// );
 /// # }
 /// ```
@@ -58,35 +58,35 @@ pub struct Refusal {
 }
 
 impl Refusal {
-    /// Document 01's number.
+    /// The number.
     pub fn number(self) -> u32 {
         self.number
     }
 
-    /// The slot that 11 names: a link whose neighbours do not agree with it.
+    /// With 11, the slot of a link at which rule 11 fails.
     pub fn slot(self) -> Option<Slot> {
         answered_slot(self.broken).filter(|_| self.number == 11)
     }
 
-    /// The rule of that number.
+    /// What is wrong, in words.
     pub fn words(self) -> &'static str {
         match self.number {
-            1 => "the columns differ in length or hold over 65,535 slots, or the header is not four words",
-            2 => "the current generation is below 2",
-            3 => "the link count or the stack length is over the capacity",
-            4 => "the link count is not the number of allocated slots",
-            5 => "there is a freelist root although no slot is free, or none although one is",
-            6 => "the freelist comes to pointer 0",
-            7 => "the freelist points past the stack",
-            8 => "the freelist comes to an allocated slot",
-            9 => "the freelist goes round without a slot that points at itself",
-            10 => "the freelist ends before it has come to every free slot",
-            11 => "a link's prev or next is past the stack, free, or does not name it back",
-            12 => "the pointer is stale: its slot is 0, past the stack or free, or the generations differ",
-            13 => "the link has a neighbour where none may be, or none where one must be",
-            14 => "the slice for the answer is too short, or the where-from column has another length",
-            15 => "a generation below 2 cannot be set",
-            16 => "the command words are not a multiple of five, or the command's code is unknown",
+            1 => "two columns differ in length or are longer than 65,535, or the header has not four words",
+            2 => "the current generation is 0 or 1",
+            3 => "the stack length or the link count exceeds the capacity",
+            4 => "the link count differs from how many links the stack has",
+            5 => "there is a root but no free slot, or a free slot but no root",
+            6 => "the freelist names 0 where it must name a slot",
+            7 => "the freelist names a slot above the stack",
+            8 => "the freelist names a link",
+            9 => "the freelist has no end, that is no slot that points at itself",
+            10 => "the freelist ends and has missed a free slot",
+            11 => "a link names a neighbour that is above the stack or free, or does not name it in turn",
+            12 => "the pointer is stale: in its slot there is no link, or one of another generation",
+            13 => "a neighbour is in the way, or one is missing",
+            14 => "the slice to be filled is too short, or the where-from column has not the columns' length",
+            15 => "generation 0 or 1 was to be set",
+            16 => "the command words are no whole commands, or the code of a command is unknown",
             _ => "no rule of this number is known here",
         }
     }

@@ -1,4 +1,4 @@
-//! A run of edits: its commands, and what became of each.
+//! A run of edits: its commands, and what became of each (REFERENCE, Run).
 
 use core::error::Error;
 use core::fmt;
@@ -8,15 +8,15 @@ use crate::{Done, Ptr, Refusal, Slot};
 /// One edit of a run.
 #[derive(Clone, Copy, Debug, PartialEq, Eq)]
 pub enum Command {
-    /// Joins the end to the start.
+    /// Makes the second link the next of the first.
     Connect(Ptr, Ptr),
-    /// Parts the link from its prev.
+    /// Parts the link from the one before it.
     BreakPrev(Ptr),
-    /// Parts the link from its next.
+    /// Parts the link from the one after it.
     BreakNext(Ptr),
-    /// Exchanges what comes after the two links.
+    /// Gives each of the two links the other one's next.
     ExchangeNext(Ptr, Ptr),
-    /// Removes the link.
+    /// Takes the link out.
     Remove(Ptr),
 }
 
@@ -24,7 +24,7 @@ impl Command {
     /// How many words a command is.
     pub const WORDS: usize = 5;
 
-    /// The words of the command: its code, then two slots each followed by its generation.
+    /// The words of the command: its code, then slot and generation of two pointers.
     pub fn words(self) -> [u32; Self::WORDS] {
         const NONE: Ptr = Ptr { slot: 0, generation: 0 };
         let (code, p, q) = match self {

@@ -1,4 +1,4 @@
-//! The walk along a chain: a state that is stepped, and iterators over the links.
+//! The walk along a chain: a state that is stepped, and iterators over the links (REFERENCE, Walk).
 
 use core::iter::FusedIterator;
 
@@ -24,13 +24,13 @@ use crate::{Arena, Done, Ptr, Refusal, Slot};
 /// ```
 #[derive(Clone, Copy, Debug, PartialEq, Eq, Hash)]
 pub struct Walk {
-    /// The slot where the walk began
+    /// The slot it began at
     pub start: u32,
-    /// The slot that the next step answers, 0 once the walk has ended
+    /// The slot that the next step will answer, 0 once the walk is over
     pub position: u32,
-    /// 0 along next, any other along prev
+    /// 0: along next, any other word: along prev
     pub direction: u32,
-    /// The advances left; they begin at the link count
+    /// How many more steps may advance; at the start as many as there are links
     pub left: u32,
 }
 

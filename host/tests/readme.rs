@@ -1,28 +1,55 @@
-//! The links of the README and of docs/PROMISES.md lead to files that are there; the README names every call, and PROMISES every must-fail edit.
+//! The links of all documents lead to files that are there, and to headings in them; the README names every call, and PROMISES every must-fail edit.
 
 use std::collections::BTreeSet;
 use std::fs;
-use std::path::Path;
+use std::path::{Path, PathBuf};
 
 use chain_arena::levels::LEVELS;
 
-/// The relative links of a Markdown text.
-fn links(text: &str) -> impl Iterator<Item = &str> {
-    text.split("](").skip(1).filter_map(|rest| rest.split([')', '#']).next())
+/// Every document.
+fn documents() -> Vec<PathBuf> {
+    let root = fs::canonicalize(Path::new(env!("CARGO_MANIFEST_DIR")).join("..")).unwrap();
+    let docs = fs::read_dir(root.join("docs")).unwrap().map(|entry| entry.unwrap().path());
+    docs.chain([root.join("README.md"), root.join("oracle/GLUE.md")]).collect()
+}
+
+/// The relative links of a Markdown text, those in code left out.
+fn links(text: &str) -> Vec<String> {
+    let prose: String = text.split('`').step_by(2).collect();
+    prose.split("](").skip(1).filter_map(|rest| rest.split(')').next()).map(str::to_string).collect()
+}
+
+/// The names by which a link leads to the headings of a Markdown text.
+fn headings(text: &str) -> Vec<String> {
+    let titles =
+        text.lines().filter(|line| line.trim_start_matches('#').starts_with(' ') && line.starts_with('#'));
+    let name = |title: &str| {
+        let kept = title.chars().filter(|c| c.is_alphanumeric() || " -_".contains(*c));
+        kept.collect::<String>().trim().to_lowercase().replace(' ', "-")
+    };
+    titles.map(name).collect()
 }
 
 #[test]
-fn every_link_leads_to_a_file() {
-    let root = Path::new(env!("CARGO_MANIFEST_DIR")).join("..");
-    for (name, linked) in
-        [("README.md", "docs/PROMISES.md"), ("docs/PROMISES.md", "WHY-THE-SWAP-IS-RIGHT.md")]
-    {
-        let document = root.join(name);
+fn every_link_leads_to_a_file_and_to_a_heading_in_it() {
+    let mut linked = BTreeSet::new();
+    for document in documents() {
         let text = fs::read_to_string(&document).unwrap();
-        assert!(links(&text).any(|link| link == linked), "{name} does not link to {linked}");
         for link in links(&text) {
-            assert!(document.with_file_name(link).exists(), "{name} links to {link}");
+            let (file, heading) = link.split_once('#').unwrap_or((&link, ""));
+            let target = if file.is_empty() { document.clone() } else { document.with_file_name(file) };
+            assert!(target.exists(), "{} links to {link}", document.display());
+            let known = || headings(&fs::read_to_string(&target).unwrap());
+            assert!(
+                heading.is_empty() || known().iter().any(|name| name == heading),
+                "{} links to {link}",
+                document.display()
+            );
+            linked.insert(fs::canonicalize(target).unwrap());
         }
+    }
+    for document in documents().iter().filter(|document| !document.ends_with("README.md")) {
+        assert!(linked.contains(document), "nothing links to {}", document.display());
     }
 }
 

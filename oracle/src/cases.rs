@@ -3,11 +3,11 @@
 use crate::random::Random;
 use crate::{Arena, Call, Ptr, Walk, model};
 
-/// The number of accepted arenas of stack length 0 to 6.
+/// How many arenas of stack length 0, 1, and so on up to 6 pass the check.
 pub const COUNTS: [usize; 7] = [1, 3, 13, 73, 501, 4_051, 37_633];
 
-/// Every accepted arena of a stack length, its capacity equal to it, each link and the header at generation 5, each
-/// payload 100 and the slot, unread words 0.
+/// Every arena of a stack length that passes the check, with no room above the stack. All generations are 5, a payload is
+/// 100 and the slot, and words that nobody looks at are 0.
 pub fn small_arenas(length: usize) -> Vec<Arena> {
     let mut arenas = Vec::new();
     for links in 0..1 << length {
@@ -81,8 +81,8 @@ pub fn dressed(a: &Arena, r: &mut Random, room: usize, links: &[u32], current: u
     a
 }
 
-/// Every accepted arena of a stack length in four dresses: as the marked cases have them, with mixed generations, one
-/// removal away from an overflow, and at it.
+/// Every arena of a stack length that passes the check, in four dresses: as the marked cases have them, with mixed
+/// generations, one removal away from an overflow, and at it.
 pub fn dressed_arenas(length: usize) -> Vec<Arena> {
     let mut r = Random::new(length as u64);
     let mut arenas = Vec::new();
@@ -97,7 +97,7 @@ pub fn dressed_arenas(length: usize) -> Vec<Arena> {
 
 /// Tuples of words of a stack length: each slot's generation 0 or 5, its prev and next, the root and the link count each 0
 /// to the length and 1. Those of one numbered tuple of slots, with every root and link count; the capacity is the length
-/// and `room`, with noise past the stack.
+/// and `room`, with noise above the stack.
 pub fn each_tuple(length: usize, room: usize, slots: usize, mut found: impl FnMut(&Arena)) {
     let mut r = Random::new(length as u64);
     let a = Arena { header: vec![length as u32, 0, 0, 5], ..Arena::empty(length) };

@@ -1,5 +1,5 @@
-//! The same calls on the crate's own text. The crate answers less than document 01 numbers, so it is asked in the
-//! paper's order, and its own answer must agree with what it was found to hold.
+//! The calls, made on the crate's own text. The crate has no numbers for its refusals, so it is asked for its links in the
+//! order in which a call refuses (docs/REFERENCE.md), and its own answer must agree with what it was found to hold.
 
 use std::num::{NonZeroU16, NonZeroU32, NonZeroUsize};
 use std::sync::OnceLock;
@@ -22,7 +22,7 @@ pub struct CrateArena {
     chain: Chain,
 }
 
-/// What the crate's check says when it refuses, and document 01's number for it. 1 and 6 cannot be held by its types.
+/// What the crate's check says when it refuses, and the number for it. What 1 and 6 are about its types cannot hold.
 const MESSAGES: [(&str, u32); 9] = [
     ("bad generation", 2),
     ("len > capacity", 3),
@@ -92,7 +92,7 @@ impl CrateArena {
         Chain::_check_invariants(&self.chain)
     }
 
-    /// Document 01's number for what the crate's check answers.
+    /// The number for what the crate's check answers.
     pub fn check(&self) -> u32 {
         let Err(message) = self.check_invariants() else {
             return 0;
@@ -231,7 +231,7 @@ impl CrateArena {
         Some(Reply::new(0, &[slot, generation, after.start, after.position, direction, after.left]))
     }
 
-    /// Connects, with the number that the links say in document 01's order.
+    /// Connects, with the number that the links say, p's before q's.
     fn connect(&mut self, p: Ptr, q: Ptr) -> u32 {
         let number = match (self.around(p), self.around(q)) {
             (None, _) => 12,
@@ -263,7 +263,7 @@ impl CrateArena {
         agreed(number, held(p).and_then(|p| self.chain.break_next(p)))
     }
 
-    /// Exchanges, with the number that the links say in document 01's order.
+    /// Exchanges, with the number that the links say, 12 of either before 13.
     fn exchange_next(&mut self, p: Ptr, q: Ptr) -> u32 {
         let number = match (self.around(p), self.around(q)) {
             (None, _) | (_, None) => 12,

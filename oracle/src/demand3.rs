@@ -1,5 +1,5 @@
-//! Demand 3 as a test of one canonical compression: what document 01's 'words of demand 3' say of the old and the new
-//! words, looked at by a program.
+//! Demand 3 as a test of one canonical compression: the points of REFERENCE, What canonical compression keeps, looked at by
+//! a program.
 
 use std::collections::BTreeMap;
 
@@ -64,7 +64,7 @@ pub fn chains(a: &Arena) -> Vec<(bool, Vec<usize>)> {
     chains
 }
 
-/// The chains of payloads, each as often as it is there.
+/// The chains of payloads, and how often each occurs.
 pub fn payload_chains(a: &Arena) -> BTreeMap<Chain, usize> {
     let mut counted = BTreeMap::new();
     for (closed, slots) in chains(a) {
@@ -74,7 +74,7 @@ pub fn payload_chains(a: &Arena) -> BTreeMap<Chain, usize> {
     counted
 }
 
-/// The pieces: slots 1 to n cut after each slot whose next is not the following slot.
+/// The pieces: the row of slots 1 to n, cut behind every slot whose next is not the slot to its right.
 fn pieces(a: &Arena) -> Vec<Vec<usize>> {
     let mut pieces = vec![Vec::new()];
     for s in 1..=a.links() {
@@ -87,28 +87,28 @@ fn pieces(a: &Arena) -> Vec<Vec<usize>> {
     pieces
 }
 
-/// The first sentence of demand 3 that one compression does not keep, if there is one.
+/// The first point of demand 3 that one compression does not keep, if there is one.
 pub fn broken(old: &Arena, new: &Arena, where_from: &[u16]) -> Option<&'static str> {
     let n = old.links();
     if new.header[..3] != [n as u32, n as u32, 0] {
-        return Some("stack length and link count are n, the root is 0");
+        return Some("filled: the header's first words are n, n and 0");
     }
     if model::check(new) != 0 {
-        return Some("the compressed arena passes the check");
+        return Some("filled: the compressed arena is well formed");
     }
     let mut came: Vec<usize> = where_from[..n].iter().map(|&s| s.into()).collect();
     came.sort_unstable();
     if came != old.link_slots().collect::<Vec<_>>() {
-        return Some("the where-from places hold each old allocated slot exactly once");
+        return Some("renaming: where the slots came from are the old links, each once");
     }
     let from = |s: u16| if s == 0 { 0 } else { where_from[s as usize - 1] };
     for s in 1..=n {
         let was = where_from[s - 1] as usize;
         if new.payload[s - 1] != old.payload[was - 1] {
-            return Some("the payload is carried");
+            return Some("renaming: each link has its payload");
         }
         if from(new.prev[s - 1]) != old.prev[was - 1] || from(new.next[s - 1]) != old.next[was - 1] {
-            return Some("what prev and next came from are the old prev and next");
+            return Some("renaming: each link has its neighbours, under their new slots");
         }
     }
     let old_slots = |(closed, slots): (bool, Vec<usize>)| {
@@ -120,7 +120,7 @@ pub fn broken(old: &Arena, new: &Arena, where_from: &[u16]) -> Option<&'static s
         let (first, last) = (piece[0], piece[piece.len() - 1]);
         let end = new.next[last - 1] as usize;
         if end != 0 && end != first {
-            return Some("a piece that is not closed ends in 0");
+            return Some("pieces: the last link of an open piece has no next");
         }
         let came = piece.iter().map(|&s| where_from[s - 1].into()).collect();
         piece_chains.push(Chain::new(end == first, came));
@@ -128,30 +128,30 @@ pub fn broken(old: &Arena, new: &Arena, where_from: &[u16]) -> Option<&'static s
     old_chains.sort_unstable();
     piece_chains.sort_unstable();
     if old_chains != piece_chains {
-        return Some("the pieces came from the old chains, each once");
+        return Some("pieces: each comes from an old chain, and each old chain from one");
     }
     if payload_chains(old) != payload_chains(new) {
-        return Some("the chains of payloads are the same, each as often");
+        return Some("same chains: the arena holds what it held before");
     }
     None
 }
 
-/// The first sentence about a further compression that is not kept: no link has moved, and the where-from places of an
-/// accepted call read 1 to n.
+/// The first point about further compressions that a later one does not keep, if there is one. Its where-from column is
+/// given if it was not refused.
 pub fn moved(first: &Arena, later: &Arena, where_from: Option<&[u16]>) -> Option<&'static str> {
     let n = first.links();
     if first.header[..3] != later.header[..3] {
-        return Some("stack length, link count and root are as the first one left them");
+        return Some("further compressions: the header's first three words stay");
     }
     if first.prev[..n] != later.prev[..n]
         || first.next[..n] != later.next[..n]
         || first.payload[..n] != later.payload[..n]
     {
-        return Some("prev, next and payload are as the first one left them");
+        return Some("further compressions: the words of the links stay");
     }
     let reads = |from: &[u16]| from[..n].iter().enumerate().all(|(k, &s)| s as usize == k + 1);
     if where_from.is_some_and(|from| !reads(from)) {
-        return Some("the where-from places read 1 to n");
+        return Some("further compressions: every link came from its own slot");
     }
     None
 }

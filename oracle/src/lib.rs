@@ -1,9 +1,9 @@
-//! Three ways to make the same calls: the crate's own text, a plain model of document 01, and the proved exports.
+//! Three ways to make the same calls: the crate's own text, a plain model, and the proved exports.
 //!
-//! `model` is written from the sentences of document 01. `crate_side` runs the files of crate triple_arena 0.15.1,
-//! unchanged, where they are at hand (see GLUE.md). `exports` calls the archives. `compare` makes one call all three ways
-//! and says where they part; `sections` are the cases that it is made on, `runner` runs them, `shrink` and `show` make of a
-//! case that fails a small one to be read. `wrapper` makes the calls of `exports` through the safe wrapper.
+//! `model` does what docs/REFERENCE.md tells. `crate_side` runs the files of triple_arena 0.15.1, unchanged, where they are
+//! at hand (see GLUE.md). `exports` calls the archives. `compare` makes one call all three ways and says where they part;
+//! `sections` are the cases that it is made on, `runner` runs them, `shrink` and `show` make of a case that fails a small
+//! one to be read. `wrapper` makes the calls of `exports` through the safe wrapper.
 
 pub mod calls;
 pub mod cases;
@@ -37,14 +37,14 @@ pub mod header {
     pub const GENERATION: usize = 3;
 }
 
-/// A lent arena: slot s is at place s - 1 of the four columns. Nothing is promised of what the words say.
+/// A lent arena; slot s has index s - 1 in the four columns. Nothing is promised of what the words say.
 #[derive(Clone, Debug, Default, PartialEq, Eq, Hash)]
 pub struct Arena {
     /// Each link's neighbour before it, 0 for none
     pub prev: Vec<u16>,
     /// Each link's neighbour after it, 0 for none; in a free slot the freelist pointer
     pub next: Vec<u16>,
-    /// Each link's generation; 0 marks a free slot
+    /// Each link's generation, 0 in a free slot
     pub generation: Vec<u32>,
     /// Each link's payload
     pub payload: Vec<u32>,
@@ -89,7 +89,7 @@ impl Arena {
         self.header[header::GENERATION]
     }
 
-    /// Whether slot `s` is in the stack and allocated.
+    /// Whether slot `s` is a link of the stack.
     pub fn is_link(&self, s: usize) -> bool {
         (1..=self.stack()).contains(&s) && self.generation[s - 1] != 0
     }
@@ -117,13 +117,13 @@ pub struct Ptr {
 /// The state of a walk, any words.
 #[derive(Clone, Copy, Debug, PartialEq, Eq)]
 pub struct Walk {
-    /// Where the walk began
+    /// The slot it began at
     pub start: u32,
-    /// The slot that the next step answers, 0 once the walk has ended
+    /// The slot that the next step will answer, 0 once the walk is over
     pub position: u32,
-    /// 0 along next, any other along prev
+    /// 0: along next, any other word: along prev
     pub direction: u32,
-    /// The advances left
+    /// How many more steps may advance
     pub left: u32,
 }
 
@@ -170,13 +170,13 @@ impl Call {
     }
 }
 
-/// What a call answers: its number, the slot that 11 names, and the further words in the order of the exported struct,
-/// those that it does not have being 0.
+/// What a call answers: its number, with 11 a broken link, and the further words in the order of the exported struct, those
+/// that it does not have being 0.
 #[derive(Clone, Copy, Debug, Default, PartialEq, Eq)]
 pub struct Reply {
-    /// 0 done, 100 done with generation overflow, else document 01's refusal
+    /// 0: done, 100: done, and the generation overflowed, any other: refused, and why (REFERENCE, Numbers)
     pub number: u32,
-    /// The slot that 11 names, else 0
+    /// With 11 a link at which rule 11 fails, else 0
     pub broken: u32,
     /// The call's further words
     pub words: [u32; 6],

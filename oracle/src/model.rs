@@ -1,10 +1,10 @@
-//! Document 01 as plain Rust, written from its sentences: slow where that is plainer, and the judge of what the crate
-//! does not tell, as 12 from 13.
+//! What docs/REFERENCE.md tells, as plain Rust, section by section: slow where that is plainer, and the judge of what the
+//! crate does not tell, as 12 from 13.
 
 use crate::header::{GENERATION, LINKS, ROOT, STACK};
 use crate::{Arena, Call, LIMIT, Ptr, Reply, Walk};
 
-/// Makes one call. Every call first gives 1 to 11.
+/// Makes one call, which begins with the check (REFERENCE, Replies).
 pub fn perform(a: &mut Arena, call: &mut Call) -> Reply {
     let number = check(a);
     if number != 0 {
@@ -32,7 +32,8 @@ pub fn perform(a: &mut Arena, call: &mut Call) -> Reply {
     }
 }
 
-/// The reply of a call on an arena that the check refuses: 11 names a slot, and a step hands back its state.
+/// The reply of a call on an arena that the check refuses: with 11 a link is named, and a step answers its state as it got
+/// it.
 fn refused(a: &Arena, number: u32, call: &Call) -> Reply {
     let mut reply = match call {
         Call::WalkStep(walk) => step_reply(number, None, *walk),
@@ -44,7 +45,7 @@ fn refused(a: &Arena, number: u32, call: &Call) -> Reply {
     reply
 }
 
-// The check
+// REFERENCE, Check
 
 /// The number of the first rule that the arena breaks, 0 if it passes.
 pub fn check(a: &Arena) -> u32 {
@@ -74,7 +75,7 @@ pub fn check(a: &Arena) -> u32 {
     if (1..=a.header[STACK]).any(|s| rule11_fails(a, s)) { 11 } else { 0 }
 }
 
-/// The freelist walk from the root, rules 6 to 10, where `free` slots are free.
+/// The visits to the freelist from the root on, rules 6 to 10, where `free` slots are free.
 fn freelist(a: &Arena, free: usize) -> u32 {
     let mut pointer = a.root() as usize;
     for visit in 1..=a.stack() + 2 {
@@ -96,7 +97,7 @@ fn freelist(a: &Arena, free: usize) -> u32 {
     9
 }
 
-/// Whether slot `s` holds a link whose prev or next is past the stack, free, or doesn't name it back.
+/// Whether rule 11 fails at slot `s`: it is a link, and one of its neighbours is no link or does not name it in turn.
 pub fn rule11_fails(a: &Arena, s: u32) -> bool {
     let s = s as usize;
     if !a.is_link(s) {
@@ -109,9 +110,9 @@ pub fn rule11_fails(a: &Arena, s: u32) -> bool {
     bad_before || bad_after
 }
 
-// Reading
+// REFERENCE, Reading
 
-/// Whether a pointer is stale: its slot is 0, past the stack or free, or the generations differ.
+/// Whether a pointer is stale: in its slot there is no link, or one of another generation.
 fn stale(a: &Arena, p: Ptr) -> bool {
     let s = p.slot as usize;
     !a.is_link(s) || a.generation[s - 1] != p.generation
@@ -161,7 +162,7 @@ fn are_neighbors(a: &Arena, p: Ptr, q: Ptr) -> bool {
     !stale(a, p) && !stale(a, q) && at(&a.next, p.slot) == q.slot
 }
 
-// The walk
+// REFERENCE, Walk
 
 /// A walk that begins at the pointer's link, with as many advances as there are links.
 fn walk_start(a: &Arena, p: Ptr) -> Reply {
@@ -223,9 +224,9 @@ pub fn chain_of(a: &Arena, s: usize) -> Vec<usize> {
     slots
 }
 
-// Edits
+// REFERENCE, Connect, Break and Exchange
 
-/// Joins the end p to the start q.
+/// Makes q the next of p.
 fn connect(a: &mut Arena, p: Ptr, q: Ptr) -> u32 {
     if stale(a, p) {
         return 12;
@@ -244,7 +245,7 @@ fn connect(a: &mut Arena, p: Ptr, q: Ptr) -> u32 {
     0
 }
 
-/// Parts the link from its prev.
+/// Parts the link from the one before it.
 fn break_prev(a: &mut Arena, p: Ptr) -> u32 {
     if stale(a, p) {
         return 12;
@@ -258,7 +259,7 @@ fn break_prev(a: &mut Arena, p: Ptr) -> u32 {
     0
 }
 
-/// Parts the link from its next.
+/// Parts the link from the one after it.
 fn break_next(a: &mut Arena, p: Ptr) -> u32 {
     if stale(a, p) {
         return 12;
@@ -272,7 +273,7 @@ fn break_next(a: &mut Arena, p: Ptr) -> u32 {
     0
 }
 
-/// Exchanges what comes after the two links.
+/// Gives each of the two links the other one's next.
 fn exchange_next(a: &mut Arena, p: Ptr, q: Ptr) -> u32 {
     if stale(a, p) || stale(a, q) {
         return 12;
@@ -288,7 +289,7 @@ fn exchange_next(a: &mut Arena, p: Ptr, q: Ptr) -> u32 {
     0
 }
 
-// Removal, generations, freelist
+// REFERENCE, Remove, Drain, Generation and Freelist
 
 /// The generation after this one, and whether it overflowed.
 fn generational_inc(generation: u32) -> (u32, bool) {
@@ -305,7 +306,7 @@ fn raise_generation(a: &mut Arena) -> bool {
     overflowed
 }
 
-/// The number of a call that is done: 100 with generation overflow, else 0.
+/// The number of a call that is done: 100 if the generation overflowed, else 0.
 fn overflow_number(overflowed: bool) -> u32 {
     if overflowed { 100 } else { 0 }
 }
@@ -318,7 +319,7 @@ fn zero(a: &mut Arena, s: usize) {
     a.payload[s - 1] = 0;
 }
 
-/// Takes slot `s` out: the last slot of the stack is popped, any other becomes the freelist root.
+/// Gives slot `s` up: where the stack ends with it, it is popped, else it is freed and becomes the root.
 fn free_slot(a: &mut Arena, s: usize) {
     zero(a, s);
     if s == a.stack() {
@@ -340,7 +341,7 @@ fn remove_slot(a: &mut Arena, s: usize) -> bool {
     raise_generation(a)
 }
 
-/// Removes a link and answers its prev, next and payload as they were.
+/// Takes a link out and answers what it was: prev, next, payload.
 fn remove(a: &mut Arena, p: Ptr) -> Reply {
     if stale(a, p) {
         return Reply::number(12);
@@ -351,7 +352,7 @@ fn remove(a: &mut Arena, p: Ptr) -> Reply {
     Reply::new(overflow_number(overflowed), &words)
 }
 
-/// Removes the whole chain in the walk's order, and reports each item as it is at its own removal.
+/// Removes all links of the chain in the order of a walk, and reports each as it is when its turn comes.
 fn drain(a: &mut Arena, p: Ptr, report: &mut [u32]) -> Reply {
     if stale(a, p) {
         return Reply::number(12);
@@ -384,7 +385,7 @@ fn set_generation(a: &mut Arena, generation: u32) -> u32 {
     0
 }
 
-/// Pops free end slots, then lists the rest in rising order, the highest pointing at itself.
+/// Pops the free slots above the highest link and links the others in rising order from the root on.
 fn canonicalize_freelist(a: &mut Arena) -> u32 {
     while a.stack() > 0 && !a.is_link(a.stack()) {
         zero(a, a.stack());
@@ -398,7 +399,7 @@ fn canonicalize_freelist(a: &mut Arena) -> u32 {
     0
 }
 
-// The run of edits
+// REFERENCE, Run
 
 /// Applies the commands in order and writes an answer for each.
 fn run(a: &mut Arena, commands: &[u32], answers: &mut [u32]) -> u32 {
@@ -414,7 +415,7 @@ fn run(a: &mut Arena, commands: &[u32], answers: &mut [u32]) -> u32 {
     0
 }
 
-/// A pointer of a command. A slot over 65,535 is stale, as slot 0 is.
+/// A pointer of a command. Slots over 65,535 are stale, as slot 0 is.
 fn command_ptr(slot: u32, generation: u32) -> Ptr {
     Ptr { slot: u16::try_from(slot).unwrap_or(0), generation }
 }
@@ -433,10 +434,10 @@ pub fn apply(a: &mut Arena, command: &[u32]) -> u32 {
     }
 }
 
-// The compressions
+// REFERENCE, Compression
 
-/// Raises the generation, or sets it to 2 on reset, and tells whether it overflowed. Without links and without reset it
-/// stays.
+/// Gives the arena the generation of a compression, and tells whether it overflowed: 2 with reset, else the one after the
+/// old, which stays where there is no link.
 fn compression_generation(a: &mut Arena, reset: bool) -> bool {
     if reset {
         a.header[GENERATION] = 2;
@@ -461,7 +462,8 @@ fn compressed(a: &mut Arena) {
     a.header[ROOT] = 0;
 }
 
-/// Order-preserving: links move down in slot order, and the report says from where to where.
+/// Order-preserving compression: the links move into the first slots in their order, and the report says from where to
+/// where.
 fn compress_with(a: &mut Arena, reset: bool, report: &mut [u32]) -> u32 {
     if report.len() < 4 * a.links() {
         return 14;
@@ -485,7 +487,7 @@ fn compress_with(a: &mut Arena, reset: bool, report: &mut [u32]) -> u32 {
     overflow_number(overflowed)
 }
 
-/// Canonical: chain by chain, each link is put in slot i by exchanging slots with what is there.
+/// Canonical compression: chain by chain, each link is exchanged with whatever is in slot i.
 fn compress_canonical(a: &mut Arena, reset: bool, where_from: &mut [u16]) -> u32 {
     if where_from.len() != a.capacity() {
         return 14;

@@ -142,7 +142,7 @@ fn on_small_arenas(longest: usize, job: impl Fn(&mut Judge, &Arena) + Sync + 'st
     Jobs::new(arenas.len(), move |judge, _, number| job(judge, &arenas[number]))
 }
 
-/// The check on every tuple of words up to a stack length, with no room past the stack and with some.
+/// The check on every tuple of words up to a stack length, with no room above the stack and with some.
 fn tuples(longest: usize) -> Jobs {
     let kinds: Vec<(usize, usize)> = (0..=longest).flat_map(|length| [(length, 0), (length, 1)]).collect();
     let count = kinds.iter().map(|&(length, _)| cases::slot_tuples(length)).sum();
@@ -181,8 +181,8 @@ fn small_demand_3(longest: usize) -> Jobs {
     })
 }
 
-/// Compares a canonical compression and looks at the sentences of demand 3, also after a list of further compressions, one
-/// of them refused.
+/// Compares a canonical compression and looks at the points of demand 3, also after three more compressions, one of them
+/// refused.
 fn demand_3(
     product: Product,
     before: &Arena,
@@ -193,19 +193,19 @@ fn demand_3(
     let (Call::CompressCanonical(reset, from), 0 | 100) = (&first.call, first.reply.number) else {
         return Ok(first);
     };
-    let not_kept = |sentence: &str| {
-        Err(Mismatch::new("export", before, call, Some(first.clone()), Err(format!("not so: {sentence}"))))
+    let not_kept = |point: &str| {
+        Err(Mismatch::new("export", before, call, Some(first.clone()), Err(format!("not so: {point}"))))
     };
-    if let Some(sentence) = demand3::broken(before, &first.arena, from) {
-        return not_kept(sentence);
+    if let Some(point) = demand3::broken(before, &first.arena, from) {
+        return not_kept(point);
     }
     let (mut later, capacity) = (first.arena.clone(), before.capacity());
     for (reset, places) in [(0, capacity), (*reset, capacity + 1), (1, capacity)] {
         let further = compare(product, &later, &Call::CompressCanonical(reset, vec![9; places]), counts)?;
         let Call::CompressCanonical(_, from) = &further.call else { unreachable!() };
         let accepted = (places == capacity).then_some(&from[..]);
-        if let Some(sentence) = demand3::moved(&first.arena, &further.arena, accepted) {
-            return not_kept(sentence);
+        if let Some(point) = demand3::moved(&first.arena, &further.arena, accepted) {
+            return not_kept(point);
         }
         later = further.arena;
     }

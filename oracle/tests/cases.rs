@@ -1,4 +1,4 @@
-//! The small arenas are all there are, and two that compress alike hold the same chains of payloads.
+//! The small arenas are all there are, and two that compress alike hold the same (REFERENCE, Chains).
 
 use std::collections::{HashMap, HashSet};
 
@@ -37,7 +37,7 @@ fn the_tuples_that_pass_are_those_arenas() {
 }
 
 #[test]
-fn arenas_that_compress_alike_hold_the_same_chains_of_payloads() {
+fn arenas_that_compress_alike_hold_the_same() {
     let (mut held, mut counts) = (HashMap::new(), Counts::default());
     let payloads: [fn(usize) -> u32; 3] = [|_| 7, |s| s as u32 % 2, |s| s as u32 / 2];
     for mut a in (0..=5).flat_map(cases::small_arenas) {

@@ -119,7 +119,7 @@ fn k9_a_drain_from_the_middle() {
 }
 
 #[test]
-fn k10_a_walk_on_a_closed_chain_ends_before_its_start_returns() {
+fn k10_a_walk_goes_round_a_closed_chain_once() {
     let closed = arena(&[(2, 2), (1, 1)], &[], 0);
     let state = |position, left| Walk { start: 2, position, direction: 0, left };
     let calls = vec![

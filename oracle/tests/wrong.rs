@@ -204,7 +204,7 @@ const WRONG: &[(&str, &str, Wrong)] = &[
         }
         o.arena.header[ROOT] = free.last().map_or(0, |&s| s as u32);
     }),
-    ("run", "edits on its first command and only answers 0 later", |a, call, o| run_as(a, call, o, |a, k, command| {
+    ("run", "only the first command done, and 0 for the others", |a, call, o| run_as(a, call, o, |a, k, command| {
         if k == 0 { model::apply(a, command) } else { 0 }
     })),
     ("run", "slots cut to 16 bits", |a, call, o| run_as(a, call, o, |a, _, command| {
@@ -237,11 +237,11 @@ const WRONG: &[(&str, &str, Wrong)] = &[
         o.arena = Arena { header: o.arena.header.clone(), ..a.clone() };
     }),
     ("compress_canonical", "slot order", |a, _, o| laid_out(a, o, |a| a.link_slots().collect())),
-    ("compress_canonical", "chains by their old lowest slot", |a, _, o| laid_out(a, o, by_lowest)),
+    ("compress_canonical", "chains sorted by their lowest slot", |a, _, o| laid_out(a, o, by_lowest)),
     ("compress_canonical", "a where-from tail that is not zeroed", |a, call, o| where_from(a, call, o, |places, old, n, stack| {
         places[n..stack].copy_from_slice(&old[n..stack]);
     })),
-    ("compress_canonical", "a where-from word past the stack zeroed", |a, call, o| where_from(a, call, o, |places, _, _, stack| {
+    ("compress_canonical", "a where-from word above the stack zeroed", |a, call, o| where_from(a, call, o, |places, _, _, stack| {
         places[stack..].fill(0);
     })),
     ("compress_canonical", "a reset that reports overflow", |a, call, o| if let Call::CompressCanonical(1.., _) = call {
@@ -470,7 +470,7 @@ fn a_side_that_panics_is_shown() {
     assert!(shown.contains("it does not go on"), "{shown}");
 }
 
-/// The sentence of demand 3 that a canonical compression of some small arena does not keep once a change is made to it.
+/// The point of demand 3 that a canonical compression of some small arena does not keep once a change is made to it.
 fn demand_3_broken(change: Wrong) -> Option<&'static str> {
     (0..=4).flat_map(cases::small_arenas).find_map(|a| {
         let call = Call::CompressCanonical(0, vec![0; a.capacity()]);
@@ -484,23 +484,25 @@ fn demand_3_broken(change: Wrong) -> Option<&'static str> {
 #[test]
 fn a_compression_that_does_not_keep_demand_3_is_found_out() {
     assert_eq!(demand_3_broken(|_, _, _| {}), None);
-    // The two further sentences, on pieces and on payloads, follow from these, so that nothing can break them alone.
+    // The two further points, on pieces and on payloads, follow from these, so that nothing can break them alone.
     let wrong: [(&str, Wrong); 6] = [
-        ("stack length and link count are n, the root is 0", |_, _, o| o.arena.header[ROOT] = 1),
-        ("the compressed arena passes the check", |_, _, o| o.arena.next.fill(1)),
-        ("the where-from places hold each old allocated slot exactly once", |_, _, o| {
+        ("filled: the header's first words are n, n and 0", |_, _, o| o.arena.header[ROOT] = 1),
+        ("filled: the compressed arena is well formed", |_, _, o| o.arena.next.fill(1)),
+        ("renaming: where the slots came from are the old links, each once", |_, _, o| {
             if let Call::CompressCanonical(_, places) = &mut o.call {
                 places.fill(1);
             }
         }),
-        ("the payload is carried", |_, _, o| o.arena.payload.reverse()),
-        ("what prev and next came from are the old prev and next", |_, _, o| {
+        ("renaming: each link has its payload", |_, _, o| o.arena.payload.reverse()),
+        ("renaming: each link has its neighbours, under their new slots", |_, _, o| {
             std::mem::swap(&mut o.arena.prev, &mut o.arena.next);
         }),
-        ("a piece that is not closed ends in 0", |a, _, o| laid_out(a, o, |a| a.link_slots().collect())),
+        ("pieces: the last link of an open piece has no next", |a, _, o| {
+            laid_out(a, o, |a| a.link_slots().collect());
+        }),
     ];
-    for (sentence, change) in wrong {
-        assert_eq!(demand_3_broken(change), Some(sentence));
+    for (point, change) in wrong {
+        assert_eq!(demand_3_broken(change), Some(point));
     }
 }
 

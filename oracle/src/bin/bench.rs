@@ -58,10 +58,10 @@ fn check_section() {
     }
 }
 
-/// 100,000 mixed edits on 2,048 links: one run, its one check in its time, and the same calls on the crate, which checks
-/// nothing. The crate's commands are taken apart beforehand, and both sides write an answer for each.
+/// 100,000 mixed edits on 2,048 links: one run, its one check in its time, and for each edit the crate's own call, without
+/// a check. The crate's commands are taken apart beforehand, and both sides write an answer for each.
 fn run_section() {
-    println!("run: 100,000 connects, breaks and exchanges on 2,048 links, nanoseconds an edit");
+    println!("run: 100,000 edits (connect, break, exchange) on 2,048 links, nanoseconds an edit");
     let (slots, edits) = (2_048, 100_000);
     let style = Style { free: 0, longest: 8, even: true, scattered: true, closed: 2 };
     let arena = alike(random::whole(&mut Random::new(1), slots, slots, style));

@@ -2,14 +2,14 @@
 //! program's calls go to its file `stdin`, the answers to its file `stdout`.
 //!
 //! `cargo run --release -p oracle --bin record`, where the crate's files are at hand (GLUE.md). The answers are those of the
-//! crate's own text; for a damaged arena its `_check_invariants` gives the number, and document 01 the rest: a refused call
-//! changes nothing and answers 0 in its further fields, and a refused step hands back its state. Where the crate has no
+//! crate's own text; for a damaged arena its `_check_invariants` gives the number, and REFERENCE, Replies the rest: nothing
+//! is written, and the further fields are 0, but for a step's, which are its state as it got it. Where the crate has no
 //! answer (1, 6, 14, 15 and 16, and what else its types cannot hold) the model's is taken. No exported call has a part in
 //! it.
 //!
-//! The cases come from fixed seeds: every accepted arena of stack length 0 to 5, random ones of a few slots, generations
-//! around the largest, noise in words that are not read, and damaged arenas. Of each call and each number that it answers
-//! some are kept, and some more of each mark that a case can have.
+//! The cases come from fixed seeds: all arenas of up to five slots that pass the check, random ones of a few slots,
+//! generations around the largest, noise in words that are not read, and damaged arenas. Of each call and each number that
+//! it answers some are kept, and some more of each mark that a case can have.
 
 use std::collections::BTreeMap;
 use std::fs;
@@ -119,7 +119,7 @@ fn some_arena(r: &mut Random, small: &[Vec<Arena>]) -> Arena {
     a
 }
 
-/// Makes words short that no call looks at: payloads, and what is not read of free slots and past the stack.
+/// Makes words short that no call looks at: payloads, and what is not read of free slots and above the stack.
 fn shorten(a: &mut Arena) {
     let stack = a.header.first().map_or(0, |&stack| stack as usize).min(a.generation.len());
     a.payload.iter_mut().for_each(|word| *word %= 100);
@@ -150,9 +150,9 @@ enum Mark {
     LargestGeneration,
     /// The arena has no links
     NoLinks,
-    /// The last slot of the stack is free
+    /// The stack ends with a free slot
     FreeEnd,
-    /// There is room past the stack
+    /// There is room above the stack
     Room,
 }
 
@@ -189,7 +189,7 @@ fn crate_answer(before: &Arena, call: &Call) -> Option<Outcome> {
     }
 }
 
-/// Document 01's reply for an arena that does not pass the check: a refused step hands back its state.
+/// The reply for an arena that does not pass the check (REFERENCE, Replies).
 fn refusal(number: u32, call: &Call) -> Reply {
     let reply = match call {
         Call::WalkStep(walk) => {

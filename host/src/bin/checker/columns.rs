@@ -74,7 +74,7 @@ impl Columns {
         at(&self.payload, slot)
     }
 
-    /// Whether a slot of the stack is allocated.
+    /// Whether a slot of the stack is a link.
     pub fn is_link(&self, slot: u32) -> bool {
         self.stack().contains(&slot) && self.generation(slot) != 0
     }

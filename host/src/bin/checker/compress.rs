@@ -44,7 +44,7 @@ impl Compressed {
     }
 }
 
-/// The words of a slot that are read: of a free slot only its next, past the stack none.
+/// The words of a slot that are read: of a free slot only its next, above the stack none.
 fn words(a: &Columns, slot: u32) -> String {
     if a.is_link(slot) {
         cells([a.prev(slot), a.next(slot), a.generation(slot), a.payload(slot)])

@@ -35,7 +35,7 @@ pub fn explain(a: &Columns, refusal: Refusal) -> Why {
         }
         3 => Why::whole(over_capacity(a)),
         4 => Why::whole(format!(
-            "the link count is {}, but {} of the stack's {} slots are allocated",
+            "the link count is {}, but {} of the stack's {} slots are links",
             header.link_count,
             a.stack().filter(|&slot| a.is_link(slot)).count(),
             header.stack_length
@@ -99,11 +99,11 @@ fn freelist(a: &Columns) -> Why {
             return Why::at(from, format!("{comes}, but its last slot must point at itself"));
         }
         if slot > header.stack_length {
-            let past = format!("{comes}, which is past the stack length {}", header.stack_length);
-            return Why { slot: Some(from).filter(|&from| from != 0), sentence: past };
+            let above = format!("{comes}, which is above the stack length {}", header.stack_length);
+            return Why { slot: Some(from).filter(|&from| from != 0), sentence: above };
         }
         if a.is_link(slot) {
-            return Why::at(slot, format!("{comes}, but slot {slot} is allocated"));
+            return Why::at(slot, format!("{comes}, but slot {slot} is a link"));
         }
         if visited[slot as usize] {
             return Why::at(from, format!("{comes} again, and none of its slots points at itself"));
@@ -148,7 +148,7 @@ fn side(
     if neighbour == 0 {
         None
     } else if neighbour > stack {
-        Some(format!("its {name} is {neighbour}, which is past the stack length {stack}"))
+        Some(format!("its {name} is {neighbour}, which is above the stack length {stack}"))
     } else if a.is_free(neighbour) {
         Some(format!("its {name} is {neighbour}, but slot {neighbour} is free"))
     } else if named == 0 {
@@ -172,8 +172,8 @@ mod tests {
         "the link count is",
         "root",
         "to 0, but its last slot must point at itself",
-        "which is past the stack length",
-        "is allocated",
+        "which is above the stack length",
+        "is a link",
         "again, and none of its slots points at itself",
         "is not on it",
         ": its ",

@@ -32,7 +32,7 @@ usage: checker [check FILE | compress FILE] [--svg OUT]
 docs/FORMAT.md describes FILE. Exit status: 0 passes the check, 1 refused, 2 wrong use or unreadable file.
 ";
 
-/// What `cargo run` shows: case K11 of document 01, and an arena with one wrong pointer.
+/// What `cargo run` shows: case K11 (REFERENCE, Marked cases), and an arena with one wrong pointer.
 const WHOLE: &str = include_str!("../../../arenas/k11.txt");
 const BROKEN: &str = include_str!("../../../arenas/broken.txt");
 
