@@ -13,7 +13,7 @@ slice-read-t13 : tie.Need-slice-read-t13
 slice-read-t13 c = let start : tie.Start = search in place-in-next (start .pre .3)
 
 returns : tie.Need-returns
-returns c a l first chain = let there : tie.Then1 = search in stays-laid chain (there .if1 .taken)
+returns c a l first chain = let there : tie.Then1 = search in stays-laid chain (omega (arith, there .if1 .taken))
 
 exchange-requires : tie.Need-exchange-requires
 exchange-requires c κs = let start : tie.Start = search in both-in-reach (start .pre .3)
