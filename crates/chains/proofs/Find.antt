@@ -10,9 +10,9 @@ use native.Mathlib.Decide.{ℕ-discrete, decLe}
 use lib.ListN.{length, length-append}
 use lib.Dec.{eqb}
 use borrow.Author.Tests.{eq-eqb, ne-eqb}
-use Rattle.definitions.specs.Columns.{at, count, firstOr}
+use Rattle.definitions.specs.Columns.{at, count, firstOr, Linked}
 use Rattle.definitions.specs.Arena.{Arena, stackLength}
-use Rattle.definitions.specs.Chains.{Linked, Kind, opened, closed, IsOpen, IsClosed, IsChain}
+use Rattle.statements.specs.Chains.{Kind, opened, closed, IsOpen, IsClosed, IsChain}
 use Rattle.definitions.specs.Compress.{startOf}
 use Rattle.definitions.proofs.Slots.{count-here, count-append}
 use Rattle.definitions.proofs.Count.{In, Once, in-here, in-left, in-right, in-split, once-one, once-cons, once-snoc}

@@ -10,7 +10,7 @@ use lib.ListN.{length}
 use Rattle.definitions.specs.Columns.{count, firstOr}
 use Rattle.definitions.specs.Arena.{Arena, stackLength, linkSlots}
 use Rattle.definitions.specs.Check.{WellFormed}
-use Rattle.definitions.specs.Chains.{Kind, opened, closed, IsChain, Rotation, Like, Chain, Alike, nth, Listing, OnOneChain, Paired}
+use Rattle.statements.specs.Chains.{Kind, opened, closed, IsChain, Rotation, Like, Chain, Alike, nth, Listing, OnOneChain, Paired}
 use Rattle.definitions.proofs.Slots.{count-append}
 use Rattle.definitions.proofs.Count.{In, Once, in-here, in-there, in-cases, in-append, in-left, in-right, not-in-nil, once-nil, count-links, only-links}
 use Rattle.definitions.proofs.Linked.{in-first}

@@ -7,9 +7,9 @@ use mathlib.Core.List.{List, [], _∷_, _++_}
 use native.Mathlib.Omega.{arith}
 use native.Mathlib.Decide.{ℕ-discrete}
 use lib.ListN.{length, length-append}
-use Rattle.definitions.specs.Columns.{at, count, firstOr}
+use Rattle.definitions.specs.Columns.{at, count, firstOr, Linked}
 use Rattle.definitions.specs.Arena.{Arena}
-use Rattle.definitions.specs.Chains.{Linked, Kind, opened, closed, IsOpen, IsClosed, IsChain, Rotation, Like}
+use Rattle.statements.specs.Chains.{Kind, opened, closed, IsOpen, IsClosed, IsChain, Rotation, Like}
 use Rattle.definitions.proofs.Slots.{count-here, count-append}
 use Rattle.definitions.proofs.Count.{In, in-here, in-there, in-split, in-left, not-in-nil}
 use Rattle.definitions.proofs.Linked.{first-append, in-first, linked-join, linked-split, next-in, follows, end-follows, same-run}

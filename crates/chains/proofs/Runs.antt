@@ -5,8 +5,7 @@ use mathlib.Core.Logic.{_≢_, _⊎_, inl, inr}
 use mathlib.Core.List.{List, [], _∷_, _++_, cons≢nil}
 use native.Mathlib.Omega.{arith}
 use lib.ListN.{length}
-use Rattle.definitions.specs.Columns.{at, firstOr}
-use Rattle.definitions.specs.Chains.{Linked}
+use Rattle.definitions.specs.Columns.{at, firstOr, Linked}
 use Rattle.definitions.proofs.Slots.{count-here}
 use Rattle.definitions.proofs.Count.{In, Once, in-here, in-there, in-cases, in-only, in-append}
 use Rattle.definitions.proofs.Linked.{follows, end-follows}

@@ -11,9 +11,8 @@ use native.Mathlib.Decide.{decLe}
 use lib.ListN.{length, length-append}
 use lib.Dec.{eqb, ltb}
 use borrow.Author.Tests.{eqb-true, eqb-false, ltb-false, not-false}
-use Rattle.definitions.specs.Columns.{at, count, firstOr, lastOr}
+use Rattle.definitions.specs.Columns.{at, count, firstOr, lastOr, Linked}
 use Rattle.definitions.specs.Arena.{Arena, stackLength, linkCount, root, linkSlots, freeSlots}
-use Rattle.definitions.specs.Chains.{Linked}
 use Rattle.definitions.specs.Check.{freelistWalk, countsOf, Freelist}
 use Rattle.definitions.proofs.Tests.{by-test, pass, tests}
 use Rattle.definitions.proofs.Slots.{links-and-free}

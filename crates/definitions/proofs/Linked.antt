@@ -5,8 +5,7 @@ use mathlib.Core.Logic.{_⊎_, inl, inr}
 use mathlib.Core.List.{List, [], _∷_, _++_}
 use native.Mathlib.Omega.{arith}
 use native.Mathlib.Decide.{ℕ-discrete}
-use Rattle.definitions.specs.Columns.{count, firstOr, lastOr}
-use Rattle.definitions.specs.Chains.{Linked}
+use Rattle.definitions.specs.Columns.{count, firstOr, lastOr, Linked}
 use Rattle.definitions.proofs.Count.{In, in-here, in-there, in-cases, not-in-nil, count-first, count-grows}
 
 -- ---- first and last

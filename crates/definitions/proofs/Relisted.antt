@@ -6,9 +6,8 @@ use mathlib.Core.Bool.{Bool, true}
 use mathlib.Core.List.{List, [], _∷_}
 use native.Mathlib.Omega.{arith}
 use lib.ListN.{length}
-use Rattle.definitions.specs.Columns.{at, put, firstOr, lastOr, slotsFrom, keep}
+use Rattle.definitions.specs.Columns.{at, put, firstOr, lastOr, slotsFrom, keep, Linked}
 use Rattle.definitions.specs.Arena.{allocated, linkSlots}
-use Rattle.definitions.specs.Chains.{Linked}
 use Rattle.definitions.specs.Remove.{threaded}
 use Rattle.definitions.proofs.Tests.{by-test}
 use Rattle.definitions.proofs.Columns.{length-put, at-put-same, at-put-other}

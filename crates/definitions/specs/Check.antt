@@ -5,9 +5,8 @@ use mathlib.Core.Bool.{Bool, true, false, cond, not, _&&_, _||_}
 use mathlib.Core.List.{List, []}
 use lib.ListN.{length}
 use lib.Dec.{eqb, ltb}
-use Rattle.definitions.specs.Columns.{at, count, firstOr, lastOr}
+use Rattle.definitions.specs.Columns.{at, count, firstOr, lastOr, Linked}
 use Rattle.definitions.specs.Arena.{Arena, capacity, headerWords, stackLength, linkCount, root, current, allocated, linkSlots, freeSlots, isLink}
-use Rattle.definitions.specs.Chains.{Linked}
 
 -- 1: the header has not four words, prev is longer than the limit, or another column is not as long as prev (REFERENCE, Check)
 unfoldable pub misshapen : ℕ → Arena → Bool

@@ -1,5 +1,6 @@
 -- Words of a column by slot, and lists of slots. The word of slot s has index s − 1 (REFERENCE, Arena).
 use Prim.Native.Nat.{ℕ, zero, suc, _+_, _-_}
+use mathlib.Core.Path.{_≡_}
 use mathlib.Core.Bool.{Bool, true, false, cond}
 use mathlib.Core.List.{List, [], _∷_, _++_}
 use lib.ListN.{length, getD, set, drop, replicate}
@@ -28,6 +29,11 @@ firstOr z (x ∷ xs) = x
 unfoldable pub lastOr : ℕ → List ℕ → ℕ
 lastOr z [] = z
 lastOr z (x ∷ xs) = lastOr x xs
+
+-- next leads from each member of a list to the one after it, and from the last one to z
+unfoldable pub Linked : (ℕ → ℕ) → List ℕ → ℕ → Type 0
+Linked next [] z = Unit {0}
+Linked next (s ∷ ss) z = (next s ≡ firstOr z ss) × Linked next ss z
 
 -- k slots from s on, in rising order
 unfoldable pub slotsFrom : ℕ → ℕ → List ℕ

@@ -1,7 +1,6 @@
 pub mod Columns
 pub mod Arena
 pub mod Lent
-pub mod Chains
 pub mod Check
 pub mod Reply
 pub mod Read
@@ -11,11 +10,6 @@ pub mod Remove
 pub mod Run
 pub mod Compress
 pub mod Calls
-pub mod Demand3
-pub mod WalkOrder
-pub mod Answers
 pub mod Report
-pub mod DrainsChain
-pub mod EveryCall
 pub mod Cases
 pub mod Refusals

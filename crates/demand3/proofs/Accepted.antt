@@ -15,7 +15,7 @@ use Rattle.definitions.specs.Reply.{Reply, reply, refusal}
 use Rattle.definitions.specs.Edit.{overflows, doneNumber}
 use Rattle.definitions.specs.Compress.{raises, compressGeneration, compressNumber, relocate, compressCanonical}
 use Rattle.definitions.specs.Calls.{CompressCanonical, accepted, replyTo}
-use Rattle.definitions.specs.Demand3.{Accepted, Further, compress, Compressed}
+use Rattle.statements.specs.Demand3.{Accepted, Further, compress, Compressed}
 use Rattle.definitions.proofs.Numbers.{verdict-most}
 use Rattle.definitions.proofs.Parts.{take-settled}
 use Rattle.well_formed.proofs.WellFormed.{well-formed-if-passes}

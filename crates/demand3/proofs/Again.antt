@@ -6,9 +6,9 @@ use mathlib.Core.List.{List, [], _∷_, _++_, append-assoc, cons≢nil, flatten}
 use native.Mathlib.Omega.{arith}
 use native.Mathlib.Nat.{add-zero}
 use lib.ListN.{length, length-append}
-use Rattle.definitions.specs.Columns.{at, firstOr, slotsFrom}
+use Rattle.definitions.specs.Columns.{at, firstOr, slotsFrom, Linked}
 use Rattle.definitions.specs.Arena.{Arena}
-use Rattle.definitions.specs.Chains.{Linked, Kind, opened, closed, IsClosed, IsChain, Like}
+use Rattle.statements.specs.Chains.{Kind, opened, closed, IsClosed, IsChain, Like}
 use Rattle.definitions.specs.Compress.{place, relocate}
 use Rattle.definitions.proofs.Slots.{count-here}
 use Rattle.definitions.proofs.Count.{In, in-here, in-slots, slots-once, count-first}

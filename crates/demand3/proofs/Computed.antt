@@ -5,12 +5,12 @@ use mathlib.Core.Path.{_≡_, refl}
 use mathlib.Core.Bool.{true, false}
 use mathlib.Core.List.{[], _∷_, map}
 use native.Mathlib.Omega.{arith}
-use Rattle.definitions.specs.Columns.{at, put, firstOr, lastOr, slotsFrom, keep, written, settled}
+use Rattle.definitions.specs.Columns.{at, put, firstOr, lastOr, slotsFrom, keep, written, settled, Linked}
 use Rattle.definitions.specs.Arena.{Arena, arena, capacityLimit, largestGeneration, allocated, linkSlots, freeSlots}
 use Rattle.definitions.specs.Reply.{reply}
 use Rattle.definitions.specs.Check.{misshapen, freelistWalk, namesBack, neighboursFine, allFine, countsOf, verdict}
 use Rattle.definitions.specs.Edit.{nextGeneration, overflows}
-use Rattle.definitions.specs.Chains.{Linked, IsChain, Listing, nth, extended, cut, marked, pieces, replaced}
+use Rattle.statements.specs.Chains.{IsChain, Listing, nth, extended, cut, marked, pieces, replaced}
 use Rattle.definitions.specs.Compress.{raises, compressGeneration, compressNumber, place, relocate, movesOf, compressWith, exchanged, exchangeWords, exchangeLinks, exchangeSlots, putAtI, lowestFrom, startOf, layChain, layChains, laidOut, canonicalArena, compressCanonical}
 use Rattle.definitions.specs.Calls.{CompressWith, CompressCanonical, accepted, replyTo}
 

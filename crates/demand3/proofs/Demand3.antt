@@ -23,7 +23,7 @@
 -- and the canonical order of what is left is 1 to n (Again). Assumes nothing.
 use Prim.Native.Nat.{ℕ}
 use Rattle.definitions.specs.Arena.{capacityLimit, largestGeneration}
-use Rattle.definitions.specs.Demand3.{Demand3}
+use Rattle.statements.specs.Demand3.{Demand3}
 use Rattle.chains.proofs.Listings.{listings-pair}
 use Rattle.demand3.proofs.Accepted.{done-accepted}
 use Rattle.demand3.proofs.OneCompression.{one-compression}

@@ -10,9 +10,8 @@ use native.Mathlib.Decide.{decLe}
 use lib.ListN.{length, take, drop, length-append}
 use lib.Dec.{eqb}
 use borrow.Author.Tests.{eq-eqb, ne-eqb}
-use Rattle.definitions.specs.Columns.{at, count, firstOr}
+use Rattle.definitions.specs.Columns.{at, count, firstOr, Linked}
 use Rattle.definitions.specs.Arena.{Arena, stackLength}
-use Rattle.definitions.specs.Chains.{Linked}
 use Rattle.definitions.specs.Compress.{Laying, exchanged, exchangeWords, putAtI, layChain}
 use Rattle.definitions.proofs.Tests.{the-first, the-second, neither}
 use Rattle.definitions.proofs.Columns.{at-zero}

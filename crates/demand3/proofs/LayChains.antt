@@ -10,9 +10,9 @@ use native.Mathlib.Nat.{add-zero}
 use native.Mathlib.Decide.{ℕ-discrete}
 use lib.ListN.{length, take, drop, length-drop}
 use borrow.Author.Tests.{eq-eqb, ne-eqb}
-use Rattle.definitions.specs.Columns.{at, firstOr, slotsFrom, keep}
+use Rattle.definitions.specs.Columns.{at, firstOr, slotsFrom, keep, Linked}
 use Rattle.definitions.specs.Arena.{Arena, stackLength, isLink}
-use Rattle.definitions.specs.Chains.{Linked, Kind, opened, closed, IsChain}
+use Rattle.statements.specs.Chains.{Kind, opened, closed, IsChain}
 use Rattle.definitions.specs.Compress.{Laying, lowestFrom, startOf, layChain, layChains, laidOut}
 use Rattle.definitions.proofs.Tests.{by-test}
 use Rattle.definitions.proofs.Columns.{at-zero}

@@ -7,10 +7,10 @@ use native.Mathlib.Omega.{arith}
 use lib.ListN.{length, take}
 use Rattle.definitions.specs.Columns.{at}
 use Rattle.definitions.specs.Arena.{Arena, linkCount}
-use Rattle.definitions.specs.Chains.{pieces}
+use Rattle.statements.specs.Chains.{pieces}
 use Rattle.definitions.specs.Check.{WellFormed}
 use Rattle.definitions.specs.Compress.{relocate}
-use Rattle.definitions.specs.Demand3.{Compressed, OfOne}
+use Rattle.statements.specs.Demand3.{Compressed, OfOne}
 use Rattle.chains.proofs.Links.{DoublyLinked, well-formed-linked}
 use Rattle.chains.proofs.Listings.{linked-on-one-chain}
 use Rattle.renaming.proofs.Orders.{OrderOf}

@@ -12,7 +12,7 @@ use lib.Dec.{eqb}
 use borrow.Author.Tests.{eq-eqb, ne-eqb}
 use Rattle.definitions.specs.Columns.{count, firstOr, slotsFrom, keep}
 use Rattle.definitions.specs.Arena.{Arena, stackLength, linkCount, linkSlots, isLink}
-use Rattle.definitions.specs.Chains.{Kind, IsChain}
+use Rattle.statements.specs.Chains.{Kind, IsChain}
 use Rattle.definitions.proofs.Slots.{count-nil, count-append, count-slots-in, length-slots}
 use Rattle.definitions.proofs.Count.{In, Once, in-here, in-append, not-in-nil, slots-once, in-keep, keep-yes, keep-no, keep-has}
 use Rattle.chains.proofs.Links.{Link, DoublyLinked, link-some, link-within, link-nonzero}

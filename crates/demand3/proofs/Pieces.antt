@@ -8,9 +8,9 @@ use native.Mathlib.Omega.{arith}
 use native.Mathlib.Nat.{add-zero}
 use lib.ListN.{length, length-append}
 use borrow.Author.Tests.{eq-eqb, ne-eqb}
-use Rattle.definitions.specs.Columns.{at, firstOr, lastOr, slotsFrom}
+use Rattle.definitions.specs.Columns.{at, firstOr, lastOr, slotsFrom, Linked}
 use Rattle.definitions.specs.Arena.{Arena}
-use Rattle.definitions.specs.Chains.{Linked, Kind, opened, closed, IsChain, extended, cut, marked}
+use Rattle.statements.specs.Chains.{Kind, opened, closed, IsChain, extended, cut, marked}
 use Rattle.definitions.specs.Compress.{place, relocate}
 use Rattle.definitions.proofs.Parts.{at-one, at-cons, at-append-left, at-append-right, slots-append}
 use Rattle.chains.proofs.Runs.{linked-at, linked-end}

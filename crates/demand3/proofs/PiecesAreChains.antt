@@ -8,9 +8,9 @@ use native.Mathlib.Omega.{arith}
 use lib.ListN.{length}
 use Rattle.definitions.specs.Columns.{at, count, firstOr, lastOr, slotsFrom}
 use Rattle.definitions.specs.Arena.{Arena}
-use Rattle.definitions.specs.Chains.{opened, IsChain, Chain, Like, nth, Listing, cut, marked, pieces, replaced}
+use Rattle.statements.specs.Chains.{opened, IsChain, Chain, Like, nth, Listing, cut, marked, pieces, replaced}
 use Rattle.definitions.specs.Compress.{relocate}
-use Rattle.definitions.specs.Demand3.{LiesFrom}
+use Rattle.statements.specs.Demand3.{LiesFrom}
 use Rattle.definitions.proofs.Count.{In, in-append, not-in-nil}
 use Rattle.definitions.proofs.Linked.{in-first}
 use Rattle.chains.proofs.Links.{Link, DoublyLinked}

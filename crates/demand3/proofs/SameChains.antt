@@ -8,9 +8,9 @@ use native.Mathlib.Omega.{arith}
 use lib.ListN.{length, length-map}
 use Rattle.definitions.specs.Columns.{at, lastOr, slotsFrom}
 use Rattle.definitions.specs.Arena.{Arena, linkCount}
-use Rattle.definitions.specs.Chains.{Chain, Alike, nth, cut, marked, pieces, replaced, Paired, HoldTheSame}
+use Rattle.statements.specs.Chains.{Chain, Alike, nth, cut, marked, pieces, replaced, Paired, HoldTheSame}
 use Rattle.definitions.specs.Compress.{relocate}
-use Rattle.definitions.specs.Demand3.{Agree, Compressed}
+use Rattle.statements.specs.Demand3.{Agree, Compressed}
 use Rattle.definitions.proofs.Count.{In, in-here, in-there, in-slots}
 use Rattle.definitions.proofs.Linked.{in-last}
 use Rattle.chains.proofs.Links.{DoublyLinked, well-formed-linked}

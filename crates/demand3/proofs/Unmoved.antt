@@ -8,12 +8,12 @@ use native.Mathlib.Decide.{ℕ-discrete}
 use lib.ListN.{length, take}
 use Rattle.definitions.specs.Columns.{at, slotsFrom, settled}
 use Rattle.definitions.specs.Arena.{Arena, capacity, stackLength, linkCount, root}
-use Rattle.definitions.specs.Chains.{Renaming}
+use Rattle.statements.specs.Chains.{Renaming}
 use Rattle.definitions.specs.Check.{verdict, WellFormed}
 use Rattle.definitions.specs.Reply.{Reply}
 use Rattle.definitions.specs.Compress.{compressGeneration, relocate}
 use Rattle.definitions.specs.Calls.{repliesTo, arenaAfter}
-use Rattle.definitions.specs.Demand3.{Accepted, Every, Agree, Further, made, compress, Compressed, Unmoved}
+use Rattle.statements.specs.Demand3.{Accepted, Every, Agree, Further, made, compress, Compressed, Unmoved}
 use Rattle.definitions.proofs.Parts.{at-own, take-settled}
 use Rattle.well_formed.proofs.WellFormed.{passes-if-well-formed}
 use Rattle.chains.proofs.Links.{well-formed-linked}

@@ -11,7 +11,7 @@ use Rattle.definitions.proofs.Count.{In, in-here, in-there, in-cases, not-in-ni
 use Rattle.definitions.proofs.Tests.{by-test}
 use Rattle.kept.proofs.Removal.{removed-keeps, removed-other}
 use Rattle.drains.specs.Drainable.{Drainable}
-use Rattle.definitions.specs.DrainsChain.{Untouched}
+use Rattle.statements.specs.DrainsChain.{Untouched}
 use Rattle.drains.proofs.Removed.{removed-was, removed-untouched}
 
 -- the first is removed, and the others can be drained

@@ -11,7 +11,7 @@ use lib.Dec.{eqb, ltb}
 use borrow.Author.Tests.{le-ltb, ltb-false, eqb-true, eqb-false}
 use Rattle.definitions.specs.Columns.{at, count, written}
 use Rattle.definitions.specs.Arena.{Arena, isLink}
-use Rattle.definitions.specs.Chains.{Chain, IsChain}
+use Rattle.statements.specs.Chains.{Chain, IsChain}
 use Rattle.definitions.specs.Calls.{Drain, accepted, replyTo}
 use Rattle.definitions.specs.Check.{WellFormed, verdict}
 use Rattle.definitions.specs.Read.{Pointer, stale}
@@ -27,10 +27,10 @@ use Rattle.chains.proofs.Links.{DoublyLinked, well-formed-linked, few-links, li
 use Rattle.chains.proofs.OneChain.{chain-run, chain-links, run-next, run-prev, one-chain, like-count}
 use Rattle.kept.proofs.Drain.{removedAll-keeps}
 use Rattle.well_formed.proofs.WellFormed.{well-formed-if-passes}
-use Rattle.definitions.specs.WalkOrder.{WalkOrder}
+use Rattle.statements.specs.WalkOrder.{WalkOrder}
 use Rattle.walks.proofs.Walks.{walk-gives-chain, count-reverse}
 use Rattle.drains.specs.Drainable.{Drainable}
-use Rattle.definitions.specs.DrainsChain.{DrainsChain}
+use Rattle.statements.specs.DrainsChain.{DrainsChain}
 use Rattle.drains.proofs.Report.{length-drained, items-drained}
 use Rattle.drains.proofs.Drainable.{drained-was, drained-gone, drained-untouched}
 use Rattle.drains.proofs.Overflow.{overflow-named, overflow-none}

@@ -12,7 +12,7 @@ use Rattle.definitions.specs.Arena.{Arena, headerWords, current}
 use Rattle.definitions.specs.Edit.{nextGeneration, overflows}
 use Rattle.definitions.specs.Remove.{removed, removedAll, overflowItem}
 use Rattle.definitions.proofs.Tests.{by-test}
-use Rattle.definitions.specs.DrainsChain.{overflowsAt}
+use Rattle.statements.specs.DrainsChain.{overflowsAt}
 use Rattle.drains.proofs.Removed.{header-left}
 
 -- without an overflow the generation rises by one with each removal

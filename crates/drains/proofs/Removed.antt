@@ -16,7 +16,7 @@ use Rattle.definitions.proofs.Slots.{allocated-yes, allocated-some, allocated-w
 use Rattle.definitions.proofs.Tests.{by-test}
 use Rattle.kept.proofs.Header.{four-words}
 use Rattle.kept.proofs.Removal.{removed-other}
-use Rattle.definitions.specs.DrainsChain.{Untouched}
+use Rattle.statements.specs.DrainsChain.{Untouched}
 
 -- the columns and the header of the arena that is left
 module _ (top : ℕ) (a : Arena) (s : ℕ) where

@@ -37,8 +37,8 @@ use Rattle.definitions.specs.Calls.{
   accepted,
   replyTo,
 }
-use Rattle.definitions.specs.Demand3.{Accepted}
-use Rattle.definitions.specs.EveryCall.{Unchanged}
+use Rattle.statements.specs.Demand3.{Accepted}
+use Rattle.statements.specs.EveryCall.{Unchanged}
 
 module _ (a : Arena) (l : List ℕ) where
   refuses : (k n : ℕ) → Unchanged a l (refusal k n a l)

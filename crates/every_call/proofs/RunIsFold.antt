@@ -15,8 +15,8 @@ use Rattle.definitions.specs.Edit.{connect, breakPrev, breakNext, exchangeNext,
 use Rattle.definitions.specs.Remove.{remove}
 use Rattle.definitions.specs.Run.{Command, commandWords, commandsOf, apply, applied, answersOf, run}
 use Rattle.definitions.specs.Calls.{Run, accepted, replyTo}
-use Rattle.definitions.specs.Demand3.{Accepted}
-use Rattle.definitions.specs.EveryCall.{AnswerWord, done, done-with-overflow, stale, neighbour, no-code, OneCommand}
+use Rattle.statements.specs.Demand3.{Accepted}
+use Rattle.statements.specs.EveryCall.{AnswerWord, done, done-with-overflow, stale, neighbour, no-code, OneCommand}
 use Rattle.every_call.proofs.RefusalChangesNothing.{refused-command}
 
 -- ---- one command

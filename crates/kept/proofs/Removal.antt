@@ -10,9 +10,8 @@ use native.Mathlib.Decide.{ℕ-discrete}
 use lib.ListN.{length}
 use lib.Dec.{eqb}
 use borrow.Author.Tests.{eqb-true, eq-eqb, ne-eqb}
-use Rattle.definitions.specs.Columns.{at, put, count, firstOr, lastOr}
+use Rattle.definitions.specs.Columns.{at, put, count, firstOr, lastOr, Linked}
 use Rattle.definitions.specs.Arena.{Arena, arena, allocated, isLink, withHeader}
-use Rattle.definitions.specs.Chains.{Linked}
 use Rattle.definitions.specs.Check.{WellFormed, Freelist}
 use Rattle.definitions.specs.Read.{Pointer, stale}
 use Rattle.definitions.specs.Edit.{nextGeneration}

@@ -10,7 +10,7 @@ use lib.Dec.{eqb, ltb}
 use borrow.Author.Tests.{le-ltb}
 use Rattle.definitions.specs.Columns.{written}
 use Rattle.definitions.specs.Arena.{Arena, stackLength, linkCount, current, linkSlots}
-use Rattle.definitions.specs.Chains.{Renaming}
+use Rattle.statements.specs.Chains.{Renaming}
 use Rattle.definitions.specs.Check.{WellFormed}
 use Rattle.definitions.specs.Reply.{reply}
 use Rattle.definitions.specs.Edit.{nextGeneration}

@@ -2,3 +2,4 @@ pub mod Place
 pub mod Orders
 pub mod Relocated
 pub mod CompressWith
+pub mod Determined

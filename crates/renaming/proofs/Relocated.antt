@@ -8,9 +8,9 @@ use mathlib.Core.List.{List, [], _∷_, map}
 use native.Mathlib.Omega.{arith}
 use native.Mathlib.Decide.{ℕ-discrete}
 use lib.ListN.{length, getD, length-map}
-use Rattle.definitions.specs.Columns.{at, firstOr, slotsFrom, settled}
+use Rattle.definitions.specs.Columns.{at, firstOr, slotsFrom, settled, Linked}
 use Rattle.definitions.specs.Arena.{Arena, capacity, stackLength, linkCount, root, current}
-use Rattle.definitions.specs.Chains.{Linked, Renaming}
+use Rattle.statements.specs.Chains.{Renaming}
 use Rattle.definitions.specs.Check.{Neighbour, Freelist, WellFormed}
 use Rattle.definitions.specs.Compress.{compressedHeader, place, relocate}
 use Rattle.definitions.proofs.Columns.{at-zero}

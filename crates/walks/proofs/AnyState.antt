@@ -21,7 +21,7 @@ use Rattle.definitions.proofs.Slots.{allocated-free}
 use Rattle.definitions.proofs.Count.{In, in-cases, not-in-nil}
 use Rattle.definitions.proofs.Steps.{step-spent, step-ends, step-answers}
 use Rattle.chains.proofs.Links.{Link, AllLinks, link-nonzero, links-nil, links-cons}
-use Rattle.definitions.specs.Answers.{answers}
+use Rattle.statements.specs.Answers.{answers}
 
 module _ (a : Arena) where
   -- slot 0 is no link

@@ -7,7 +7,7 @@ use native.Mathlib.Omega.{arith}
 use Rattle.definitions.specs.Columns.{count}
 use Rattle.definitions.specs.Arena.{Arena}
 use Rattle.definitions.specs.Check.{WellFormed}
-use Rattle.definitions.specs.Chains.{opened, closed, IsOpen, IsClosed, IsChain, Rotation, Like}
+use Rattle.statements.specs.Chains.{opened, closed, IsOpen, IsClosed, IsChain, Rotation, Like}
 use Rattle.definitions.specs.Walk.{walkFrom}
 use Rattle.definitions.proofs.Slots.{count-here, count-append}
 use Rattle.definitions.proofs.Count.{In, in-here, in-right, count-first, count-grows}

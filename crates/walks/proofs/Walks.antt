@@ -7,9 +7,9 @@ use mathlib.Core.List.{List, [], _∷_, _++_, reverse, reverseAux}
 use native.Mathlib.Omega.{arith}
 use native.Mathlib.Nat.{zero-add}
 use lib.ListN.{length, length-append}
-use Rattle.definitions.specs.Columns.{at, count, firstOr}
+use Rattle.definitions.specs.Columns.{at, count, firstOr, Linked}
 use Rattle.definitions.specs.Arena.{Arena, stackLength, linkCount, linkSlots}
-use Rattle.definitions.specs.Chains.{Linked, Kind, opened, closed, IsOpen, IsClosed, IsChain}
+use Rattle.statements.specs.Chains.{Kind, opened, closed, IsOpen, IsClosed, IsChain}
 use Rattle.definitions.specs.Check.{WellFormed}
 use Rattle.definitions.specs.Walk.{walk, walked, startAt, walkFrom}
 use Rattle.definitions.proofs.Slots.{count-nil, count-here, count-append}
@@ -18,7 +18,7 @@ use Rattle.definitions.proofs.LinkCount.{in-links}
 use Rattle.definitions.proofs.Linked.{first-append, linked-split}
 use Rattle.chains.proofs.Links.{Link, AllLinks, DoublyLinked, well-formed-linked, link-nonzero, links-first, prev-of-next}
 use Rattle.chains.proofs.Find.{chainFrom, chain-of, opened≢closed}
-use Rattle.definitions.specs.WalkOrder.{Walks}
+use Rattle.statements.specs.WalkOrder.{Walks}
 use Rattle.walks.proofs.Steps.{over, ahead, turns, closes, behind}
 
 module _ (a : Arena) (o : ℕ) where

@@ -5,9 +5,8 @@ use mathlib.Core.Path.{_≡_, refl, sym, ap, _∙_}
 use mathlib.Core.Bool.{Bool, true, false, true≢false}
 use mathlib.Core.List.{List, [], _∷_}
 use native.Mathlib.Omega.{arith}
-use Rattle.definitions.specs.Columns.{at, count, firstOr, lastOr, slotsFrom, keep}
+use Rattle.definitions.specs.Columns.{at, count, firstOr, lastOr, slotsFrom, keep, Linked}
 use Rattle.definitions.specs.Arena.{Arena, arena, allocated, linkSlots, freeSlots}
-use Rattle.definitions.specs.Chains.{Linked}
 use Rattle.definitions.specs.Check.{Freelist, WellFormed, Names, SameRead, misshapen, freelistWalk, namesBack, neighboursFine, allFine, countsOf, verdict}
 use Rattle.definitions.proofs.Slots.{count-nil, count-there, allocated-within}
 use Rattle.definitions.proofs.Count.{count-first, in-here}

@@ -1,0 +1,6 @@
+pub mod Chains
+pub mod Demand3
+pub mod WalkOrder
+pub mod Answers
+pub mod DrainsChain
+pub mod EveryCall

@@ -1,0 +1,2 @@
+// What is promised and proved of the calls beyond what each of them answers stands in specs/: chains, what canonical compression keeps, the order of a walk, what
+// a drain takes, what is true of every call. There is no code here: the crates of theory above it prove these statements.
