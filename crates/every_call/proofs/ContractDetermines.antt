@@ -1,24 +1,20 @@
 -- The contract of an export leaves nothing open but the slot that goes with 11: of two replies that both keep it, to the same call on the same arena with the same
 -- slice handed in, each is the other, in number, fields, arena and what is handed back. The slots are equal too unless the verdict is 11; then each of them is a link
--- at which rule 11 fails. Assumes nothing.
+-- at which rule 11 fails. And it can be kept: for every call on every arena there are a slot and a reply that meet it. Assumes nothing.
 use Prim.Native.Nat.{ℕ}
-use mathlib.Core.Path.{_≡_, sym, _∙_}
+use mathlib.Core.Path.{_≡_, refl, sym, _∙_}
 use mathlib.Core.Bool.{true}
 use mathlib.Core.List.{List}
-use borrow.Author.Tests.{not-false}
+use native.Mathlib.Decide.{ℕ-discrete}
 use Rattle.definitions.specs.Arena.{Arena, isLink}
-use Rattle.definitions.specs.Check.{verdict, FailsAt, neighboursFine}
+use Rattle.definitions.specs.Check.{verdict, FailsAt, Names}
 use Rattle.definitions.specs.Reply.{Reply}
-use Rattle.definitions.specs.Calls.{Call, Answers}
-use Rattle.definitions.proofs.Tests.{neither-first}
+use Rattle.definitions.specs.Calls.{Call, replyTo, Answers}
+use Rattle.well_formed.proofs.Verdict.{eleven-fails, fails-at-links}
 
 -- a link at which rule 11 fails
 abbrev pub BrokenLink : Arena → ℕ → Type 0
 BrokenLink a s = (isLink a s ≡ true) × FailsAt a s
-
-failing-is-link : (a : Arena) (s : ℕ) → FailsAt a s → isLink a s ≡ true
-unfolding neighboursFine
-failing-is-link a s f = not-false _ (neither-first _ _ f)
 
 module _ (limit top : ℕ) (c : Call) (a : Arena) (l : List ℕ) (x y : ℕ) (r s : Reply) where
   pub contract-determines : Answers limit top c a l x r → Answers limit top c a l y s →
@@ -30,4 +26,13 @@ module _ (limit top : ℕ) (c : Call) (a : Arena) (l : List ℕ) (x y : ℕ) (r 
   )
     where
       at-one : (t : ℕ) → FailsAt a t → BrokenLink a t
-      at-one t f = (failing-is-link a t f, f)
+      at-one t f = (fails-at-links limit a t f, f)
+
+slot-to-name : (limit : ℕ) (a : Arena) → (s : ℕ) × Names limit a s
+slot-to-name limit a = elim (ℕ-discrete (verdict limit a) 11) [
+  | yes e ↦ let f = eleven-fails limit a e in (f .0, record { one = λ _. f .1; none = λ other. absurd (other e) })
+  | no other ↦ (0, record { one = λ e. absurd (other e); none = λ _. refl })
+]
+
+pub contract-can-be-kept : (limit top : ℕ) (c : Call) (a : Arena) (l : List ℕ) → (s : ℕ) × (r : Reply) × Answers limit top c a l s r
+contract-can-be-kept limit top c a l = let n = slot-to-name limit a in (n .0, replyTo limit top c a l, record { same = refl; names = n .1 })

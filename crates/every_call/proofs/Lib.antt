@@ -2,3 +2,4 @@ pub mod RefusalChangesNothing
 pub mod EveryCallKeeps
 pub mod RunIsFold
 pub mod ContractDetermines
+pub mod ByContract

@@ -7,10 +7,10 @@ use mathlib.Core.Bool.{true, not}
 use mathlib.Core.List.{List}
 use native.Mathlib.Omega.{arith}
 use native.Mathlib.Decide.{decLe}
-use lib.ListN.{getD}
+use lib.ListN.{length, getD}
 use borrow.Author.Tests.{lt-ltb}
 use Rattle.definitions.specs.Columns.{at, slotsFrom}
-use Rattle.definitions.specs.Arena.{Arena, stackLength, linkCount, root, allocated, linkSlots, freeSlots}
+use Rattle.definitions.specs.Arena.{Arena, arena, stackLength, linkCount, root, allocated, linkSlots, freeSlots}
 use Rattle.definitions.specs.Check.{misshapen, freelistWalk, namesBack, neighboursFine, allFine, countsOf, verdict, SameRead}
 use Rattle.definitions.proofs.Tests.{by-test}
 use Rattle.definitions.proofs.Slots.{allocated-past, allocated-within}
@@ -84,3 +84,18 @@ pub verdict-reads-only : (limit : ℕ) (a b : Arena) → SameRead a b → verdic
 unfolding verdict
 verdict-reads-only limit a b same =
     rw (same-counts-verdict a b same, same-interlinks a b same, same-shape a b same limit, same .header, same .prev-length) refl
+
+-- so a payload column of the same length may hold any words
+pub payloads-are-not-read : (limit : ℕ) (ps ns gs vs ws h : List ℕ) → length vs ≡ length ws → verdict limit (arena ps ns gs vs h) ≡ verdict limit (arena ps ns gs ws h)
+payloads-are-not-read limit ps ns gs vs ws h e =
+    verdict-reads-only limit (arena ps ns gs vs h) (arena ps ns gs ws h)
+    (record {
+      header = refl;
+      prev-length = refl;
+      next-length = refl;
+      generation-length = refl;
+      payload-length = e;
+      generation = λ s i. refl;
+      next = λ s i. refl;
+      prev = λ s i. refl;
+    })
