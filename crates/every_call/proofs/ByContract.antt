@@ -1,31 +1,35 @@
 -- What follows for a program of which nothing is known but that it keeps the contract: a refusal has written nothing, what passed the check passes it afterwards, a drain that
 -- is done has taken the chain, a canonical compression that is done meets demand 3, and each answer of a run is one of five words. Each is a theorem about the definitions,
 -- carried over by the contract's one equation. Assumes nothing.
-use Prim.Native.Nat.{ℕ, _<_}
+use Prim.Native.Nat.{ℕ, _≤_, _<_, _/_, _%_}
 use mathlib.Core.Path.{_≡_, refl, sym, ap, subst, _∙_}
 use mathlib.Core.Logic.{_⊎_, inl, inr}
 use mathlib.Core.Bool.{Bool}
 use mathlib.Core.List.{List, [], _∷_}
+use native.Mathlib.Omega.{arith}
 use lib.ListN.{length, take}
-use Rattle.definitions.specs.Columns.{at}
+use lib.Dec.{eqb}
+use Rattle.definitions.specs.Columns.{at, written}
 use Rattle.definitions.specs.Arena.{Arena, linkCount}
 use Rattle.definitions.specs.Check.{verdict, WellFormed}
 use Rattle.definitions.specs.Reply.{Reply}
 use Rattle.definitions.specs.Read.{Pointer}
 use Rattle.definitions.specs.Walk.{walkFrom}
-use Rattle.definitions.specs.Run.{Command, apply, answersOf}
-use Rattle.definitions.specs.Calls.{Call, Drain, CompressCanonical, replyTo, Answers}
+use Rattle.definitions.specs.Run.{Command, commandWords, commandsOf, apply, applied, answersOf}
+use Rattle.definitions.specs.Calls.{Call, Check, Drain, Run, CompressCanonical, accepted, replyTo, Answers, Made, arenaAfter}
+use Rattle.definitions.proofs.Tests.{by-test}
 use Rattle.definitions.proofs.Count.{In, in-cases, not-in-nil}
 use Rattle.statements.specs.Chains.{pieces}
 use Rattle.statements.specs.Demand3.{Accepted, OfOne}
 use Rattle.statements.specs.DrainsChain.{DrainsChain}
 use Rattle.statements.specs.EveryCall.{Unchanged, AnswerWord}
 use Rattle.well_formed.proofs.WellFormed.{check-passes-exactly-if-well-formed}
+use Rattle.well_formed.proofs.Verdict.{verdict-bound}
 use Rattle.drains.proofs.DrainsChain.{done-drain-takes-the-chain}
 use Rattle.demand3.proofs.Demand3.{demand-3-at}
 use Rattle.every_call.proofs.RefusalChangesNothing.{refusal-changes-nothing}
-use Rattle.every_call.proofs.EveryCallKeeps.{every-call-keeps}
-use Rattle.every_call.proofs.RunIsFold.{one-command}
+use Rattle.every_call.proofs.EveryCallKeeps.{every-call-keeps, any-calls-keep, inside-a-run}
+use Rattle.every_call.proofs.RunIsFold.{one-command, reply-of-a-run}
 
 module _ (limit top : ℕ) (a : Arena) (l : List ℕ) (broken : ℕ) (r : Reply) where
   pub refusal-by-contract : (c : Call) → Answers limit top c a l broken r → (Accepted r → ⊥) → (r .arena ≡ a) × (r .back ≡ l)
@@ -55,6 +59,26 @@ module _ (limit top : ℕ) (a : Arena) (l : List ℕ) (broken : ℕ) (r : Reply)
         left = ap (λ (s : Reply). s .arena) (sym (p .same));
         whereFrom = ap (λ (s : Reply). s .back) (sym (p .same));
       })
+
+  -- a run of whole commands with room for their answers
+  pub run-by-contract : (ws : List ℕ) → Answers limit top (Run ws) a l broken r → verdict limit a ≡ 0 → length ws % commandWords ≡ 0 → length ws / commandWords ≤ length l →
+      (r .arena ≡ applied top a (commandsOf ws)) × (r .back ≡ written (answersOf top a (commandsOf ws)) l)
+  run-by-contract ws p passes whole room =
+      let s = p .same ∙ reply-of-a-run limit top a ws l passes whole room in
+      (ap (λ (q : Reply). q .arena) s, ap (λ (q : Reply). q .back) s)
+
+  -- the check answers none but the eleven rules
+  pub check-by-contract : Answers limit top Check a l broken r → r .number ≤ 11
+  unfolding replyTo accepted
+  check-by-contract p = subst (λ (s : Reply). s .number ≤ 11) (sym (p .same)) (by-test (eqb (verdict limit a) 0) (λ t. rw t (omega arith)) (λ t. rw t (verdict-bound limit a)))
+
+module _ (limit top : ℕ) (a : Arena) (ok : WellFormed limit a) where
+  -- calls made one after the other, and commands of a run
+  pub well-formed-after-calls : (ms : List Made) → WellFormed limit (arenaAfter limit top ms a)
+  well-formed-after-calls ms = check-passes-exactly-if-well-formed limit _ .0 (any-calls-keep limit top ms a (check-passes-exactly-if-well-formed limit a .1 ok))
+
+  pub well-formed-after-commands : (cs : List Command) → WellFormed limit (applied top a cs)
+  well-formed-after-commands cs = check-passes-exactly-if-well-formed limit _ .0 (inside-a-run limit top a (check-passes-exactly-if-well-formed limit a .1 ok) cs)
 
 -- the answers of a run
 pub answers-are-words : (top : ℕ) (cs : List Command) (a : Arena) (w : ℕ) → In w (answersOf top a cs) → AnswerWord w

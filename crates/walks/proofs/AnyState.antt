@@ -8,7 +8,7 @@ use mathlib.Core.List.{List, [], _∷_, _++_}
 use native.Mathlib.Omega.{arith}
 use native.Mathlib.Nat.{zero-add, suc-add}
 use native.Mathlib.Decide.{ℕ-discrete}
-use lib.ListN.{length, replicate}
+use lib.ListN.{length, replicate, getD}
 use lib.Dec.{eqb}
 use borrow.Author.Tests.{ne-eqb}
 use Rattle.definitions.specs.Columns.{at, count}
@@ -121,3 +121,23 @@ module _ (a : Arena) where
   -- as of a walk that was started
   pub walk-then-none : (o k : ℕ) → answers a (length (walkFrom a o) + k) (startAt a o) ≡ walkFrom a o ++ replicate k 0
   walk-then-none o k = walked-then-none (linkCount a) k (startAt a o) (omega arith)
+
+  -- so every slot that is answered is a link or none, one none is followed by another, and a whole walk by none
+  pub answers-are-links : (k : ℕ) (w : Walk) (s : ℕ) → In s (answers a k w) → (s ≡ 0) ⊎ Link a s
+  unfolding answers
+  answers-are-links zero w s i = absurd (not-in-nil s i)
+  answers-are-links (suc k) w s i = go (in-cases s (step a w .answer .slot) (answers a k (step a w .state)) i) (step-answers-links w) (answers-are-links k (step a w .state) s)
+    where
+      go : (s ≡ step a w .answer .slot) ⊎ In s (answers a k (step a w .state))
+          → (step a w .answer ≡ pointer 0 0) ⊎ (Link a (step a w .answer .slot) × (step a w .answer .generation ≡ at (a .generation) (step a w .answer .slot)))
+          → (In s (answers a k (step a w .state)) → (s ≡ 0) ⊎ Link a s) → (s ≡ 0) ⊎ Link a s
+      go (inl e) (inl n) later = inl (e ∙ ap (λ (p : Pointer). p .slot) n)
+      go (inl e) (inr l) later = inr (rw e (l .0))
+      go (inr j) l later = later j
+
+  pub none-again : (w : Walk) → step a w .answer .slot ≡ 0 → step a (step a w .state) .answer .slot ≡ 0
+  unfolding answers
+  none-again w z = ap (λ (l : List ℕ). getD l 0 0) (none-after-none 1 w z)
+
+  pub walk-then-one-none : (o : ℕ) → answers a (length (walkFrom a o) + 1) (startAt a o) ≡ walkFrom a o ++ 0 ∷ []
+  walk-then-one-none o = walk-then-none o 1
