@@ -44,7 +44,6 @@ removable a s ok l =
       header = ok .header;
       stands = omega arith;
       joinable = omega arith;
-      within = within;
       rooted = omega arith;
       counted = omega arith;
     }

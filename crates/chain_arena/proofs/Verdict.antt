@@ -38,30 +38,25 @@ counts-le ns gs n m s = search (either, lit≤, walk-le) depth 20
 -- ---- the check's answers
 
 module _ (a : Arena) where
-  refused : (k : ℕ) → verdict capacityLimit a ≡ k → (k ≡ 0 → ⊥) → k ≤ 10 → Checks a (Refused k)
-  refused k v d h =
-      record {
-        number = sym v;
-        names = record { one = λ e. absurd (omega arith); none = λ e. refl };
-        passed = λ e. absurd (d (sym v ∙ e));
-      }
+  refused : (k : ℕ) → verdict capacityLimit a ≡ k → k ≤ 10 → Checks a (Refused k)
+  refused k v h = record { number = sym v; names = record { one = λ e. absurd (omega arith); none = λ e. refl } }
 
   -- refusals 1 to 3, and 4 to 10
   pub checks-shape : (k : ℕ) → k ≡ shapeOf capacityLimit a → (k ≡ 0 → ⊥) → Checks a (Refused k)
-  checks-shape k e d = refused k (shape-refused capacityLimit a k e d) d (rw e (shape-le capacityLimit a))
+  checks-shape k e d = refused k (shape-refused capacityLimit a k e d) (rw e (shape-le capacityLimit a))
 
   pub checks-counts : (k : ℕ) → Shaped capacityLimit a → k ≡ countsVerdict a → (k ≡ 0 → ⊥) → Checks a (Refused k)
   checks-counts k h e d =
       let v : verdict capacityLimit a ≡ k = sym (verdict-of-shaped capacityLimit a h) ∙ rw (not-ne (countsVerdict a) 0 (λ z. d (e ∙ z))) (sym e) in
-      refused k v d (rw e (counts-le _ _ _ _ _))
+      refused k v (rw e (counts-le _ _ _ _ _))
 
   -- rule 11 fails at slot s
   pub checks-broken : (s : Slot) → Shaped capacityLimit a → countsVerdict a ≡ 0 → interlinksFine a ≡ false → FailsAt a (s .0) → Checks a (Broken s)
   checks-broken s h e f g =
       let v : verdict capacityLimit a ≡ 11 = sym (verdict-of-shaped capacityLimit a h) ∙ rw (e, f) refl in
-      record { number = sym v; names = record { one = λ _. g; none = λ d. absurd (d v) }; passed = λ z. absurd (omega arith) }
+      record { number = sym v; names = record { one = λ _. g; none = λ d. absurd (d v) } }
 
   pub checks-passed : Shaped capacityLimit a → countsVerdict a ≡ 0 → interlinksFine a ≡ true → Checks a Passed
   checks-passed h e f =
       let v : verdict capacityLimit a ≡ 0 = passes capacityLimit a h e f in
-      record { number = sym v; names = record { one = λ z. absurd (omega arith); none = λ _. refl }; passed = λ _. refl }
+      record { number = sym v; names = record { one = λ z. absurd (omega arith); none = λ _. refl } }

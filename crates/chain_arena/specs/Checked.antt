@@ -22,4 +22,3 @@ brokenSlot (Broken s) = s .0
 pub record Checks (a : Arena) (r : Checked) : Type 0 where
   pub number : checkedNumber r ≡ verdict capacityLimit a
   pub names : Names capacityLimit a (brokenSlot r)
-  pub passed : verdict capacityLimit a ≡ 0 → r ≡ Passed

@@ -33,7 +33,7 @@ has-room room words e f = ltb-false room words (sym e ∙ f)
 
 -- also once the slots are listed in it
 pub listed-room : {ss old new : List ℕ} {items : ℕ} → Listed ss old new items → length new ≡ length old → 5 * length ss ≤ length old → 5 * items ≤ length new
-listed-room l same room = let all = l .all in omega arith
+listed-room {new = new} {items} l same room = omega (arith, ap length (l .slots), length-items items new)
 
 -- a walk that was started at p
 pub record StartedAt (a : Arena) (p : Pointer) (w : ChainPtrAdvancer) : Type 0 where

@@ -34,7 +34,6 @@ module _ {a : Arena} {w₀ w : Walk} {old new : List ℕ} {items : ℕ} (l : Lis
   listing-ends z =
       let none = ahead-none a w r e z in
       record {
-        all = omega (arith, all, ap length none);
         slots = sym (append-nil (itemSlots items new)) ∙ ap (λ (ss : List ℕ). itemSlots items new ++ ss) (sym none) ∙ l .slots;
         rest = l .rest;
       }

@@ -17,7 +17,6 @@ slotsAhead a w = walked a (w .left) w
 
 -- the slots ss stand in a report, each as the first word of its item, and the words past the items are the old ones
 pub record Listed (ss old new : List ℕ) (items : ℕ) : Type 0 where
-  pub all : items ≡ length ss
   pub slots : itemSlots items new ≡ ss
   pub rest : drop (5 * items) new ≡ drop (5 * items) old
 

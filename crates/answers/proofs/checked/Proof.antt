@@ -11,7 +11,7 @@ returns c =
     let found : tie.After-check = search in
     record {
       number = told .number .ensures ∙ found .check .ensures .number;
-      names = rw (named .broken .ensures) (found .check .ensures .names);
+      names = rw (← named .broken .ensures) at (found .check .ensures .names);
     }
 
 pub checked-spec : {M : Type 1} → statement M

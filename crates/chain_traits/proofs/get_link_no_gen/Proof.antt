@@ -12,7 +12,7 @@ unfolding getLinkNoGen
 returns-2 c =
     let onward : tie.After-slot-at2 = search in
     let back : tie.After-slot-at = search in
-    rw (← c .word-at .ensures, ← onward .slot-at2 .ensures, ← back .slot-at .ensures) (search reads depth 20)
+    rw (c .word-at .ensures, onward .slot-at2 .ensures, back .slot-at .ensures) (search reads depth 20)
 
 pub get-link-no-gen-spec : {M : Type 1} → statement M
 unfolding getLinkNoGen

@@ -1,4 +1,5 @@
 -- `level_two_generation::chain_arena_inc_generation` meets its contract. An arena that the check refuses is as it was; one that passes has a header of four words, and `base_freelist::inc_generation` says the rest. Assumes nothing.
+use mathlib.Core.Path.{_∙_}
 use borrow.Author.Needs.{needs}
 use Rattle.definitions.specs.Calls.{accepted}
 use Rattle.answers.proofs.Exports.{answers-passed, answers-refused, header-length}
@@ -23,7 +24,7 @@ returns-2 c =
     let done : tie.After-inc-generation = search in
     let on : tie.Else1 = search in
     let found : tie.After-checked = search in
-    answers-passed (found .checked .ensures) (on .if1 .left) (c .of .ensures) _ _ _ _ _ (rw (told .number .ensures) (done .inc-generation .ensures _ _ _ _))
+    answers-passed (found .checked .ensures) (on .if1 .left) (c .of .ensures .0 ∙ told .number .ensures, c .of .ensures .1) _ _ _ _ _ (done .inc-generation .ensures _ _ _ _)
 
 pub chain-arena-inc-generation-spec : {M : Type 1} → statement M
 chain-arena-inc-generation-spec =
