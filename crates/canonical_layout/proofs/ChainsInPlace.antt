@@ -18,7 +18,7 @@ use Rattle.demand3.proofs.Loops.{Between, between-start, within-begins}
 use Rattle.demand3.proofs.Search.{FreeBetween, lowest-resumes, free-before}
 use Rattle.canonical_exchange.specs.Lent.{Lent}
 use Rattle.canonical_layout.specs.Held.{Held, Occupied, Rooted}
-use Rattle.canonical_layout.specs.Steps.{Layable, InChain, ChainLaid, Ready, AllLaid, NotBelow}
+use Rattle.canonical_layout.specs.Steps.{Layable, InChain, ChainLaid, Ready, AllLaid, Larger}
 use Rattle.canonical_layout.proofs.InPlace.{Exchangeable}
 use Rattle.canonical_layout.proofs.LinkInPlace.{exchangeable, place-left, place-small}
 
@@ -134,8 +134,8 @@ module _ (a : Arena) (c : Lent) (laid found : ℕ) (waits : Waits a c laid found
             )
 
         -- the search that goes on at the larger place finds what the definition finds
-        resumes : (from : ℕ) → NotBelow now (found - 1) from → lowestFrom (after .slots) (from + 1) ≡ lowestFrom (after .slots) (after .i)
-        resumes from larger = sym (lowest-resumes (after .slots) (after .i) (from + 1) (omega (arith, laid-out .i, larger .low)) (free (larger .one)))
+        resumes : (from : ℕ) → Larger now (found - 1) from → lowestFrom (after .slots) (from + 1) ≡ lowestFrom (after .slots) (after .i)
+        resumes from larger = sym (lowest-resumes (after .slots) (after .i) (from + 1) (omega (arith, laid-out .i, larger .left)) (free (larger .one)))
           where
             free : (from ≡ now) ⊎ (from ≡ found - 1) → FreeBetween (after .slots) (after .i) (from + 1)
             free (inl e) = λ s h m. absurd (omega (arith, laid-out .i))
@@ -143,7 +143,7 @@ module _ (a : Arena) (c : Lent) (laid found : ℕ) (waits : Waits a c laid found
                 let last : from + 1 ≡ lowestFrom b (l .i) = omega (arith, waits .lowest) in
                 rw last (laid-out .free (lowestFrom b (l .i)) (free-before b (l .i)))
 
-        pub next-waits : (from found′ : ℕ) → NotBelow now (found - 1) from → ((x : Arena) → Occupied x (left .whereFrom) → found′ ≡ lowestFrom x (from + 1)) → Waits a left now found′
+        pub next-waits : (from found′ : ℕ) → Larger now (found - 1) from → ((x : Arena) → Occupied x (left .whereFrom) → found′ ≡ lowestFrom x (from + 1)) → Waits a left now found′
         next-waits from found′ larger lowest =
             let one-step : waits .steps ≡ suc (waits .steps - 1) = omega (arith, waits .enough, waits .i, place-left chain-begins, same-stack a b (l .from) carried) in
             let step = lay-next (waits .steps - 1) l some in
@@ -161,7 +161,7 @@ module _ (a : Arena) (c : Lent) (laid found : ℕ) (waits : Waits a c laid found
 
 -- ---- the loop's needs
 
-pub larger-within : {x y r m : ℕ} → NotBelow x y r → x ≤ m → y ≤ m → r ≤ m
+pub larger-within : {x y r m : ℕ} → Larger x y r → x ≤ m → y ≤ m → r ≤ m
 larger-within larger h k = elim (larger .one) [ inl e ↦ omega arith | inr e ↦ omega arith ]
 
 pub ready-small : {c : Lent} → ((a : Arena) × Ready a c) → length (c .whereFrom) ≤ capacityLimit
@@ -202,7 +202,7 @@ module _ {old c : Lent} {laid found : ℕ} (laying : LayingOut old c laid found)
               omega (arith, waits .held .from-long, n, waits .layable .small),
             )
 
-        pub goes-on : {from found′ : ℕ} → NotBelow now (found - 1) from → ((b : Arena) → Occupied b (left .whereFrom) → found′ ≡ lowestFrom b (from + 1)) → LayingOut old left now found′
+        pub goes-on : {from found′ : ℕ} → Larger now (found - 1) from → ((b : Arena) → Occupied b (left .whereFrom) → found′ ≡ lowestFrom b (from + 1)) → LayingOut old left now found′
         goes-on {from} {found′} larger lowest =
             record {
               waits = λ a ready.

@@ -52,9 +52,10 @@ pub record AllLaid (a : Arena) (l : Laying) (c : Lent) : Type 0 where
   pub none : lowestFrom (l .slots) (l .i) ≡ 0
   pub held : Held (l .slots) (l .from) c
 
--- r is one of two numbers, and not below the first
-pub record NotBelow (x y r : ℕ) : Type 0 where
-  pub low : x ≤ r
+-- r is the larger of two numbers
+pub record Larger (x y r : ℕ) : Type 0 where
+  pub left : x ≤ r
+  pub right : y ≤ r
   pub one : (r ≡ x) ⊎ (r ≡ y)
 
 -- the columns of the arena a can be laid out together with a where-from column

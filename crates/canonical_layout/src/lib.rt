@@ -6,7 +6,7 @@ ghost use Rattle.definitions.specs.Arena.{Arena, capacityLimit, stackLength};
 ghost use Rattle.definitions.specs.Compress.{Laying, lowestFrom, startOf, layChain, laidOut};
 ghost use Rattle.canonical_exchange.specs.Lent.{columns, columnsAtEntry, columnsAtExit};
 ghost use Rattle.canonical_layout.specs.Held.{Occupied, Rooted};
-ghost use Rattle.canonical_layout.specs.Steps.{InChain, LinkLaid, ChainLaid, Ready, AllLaid, NotBelow};
+ghost use Rattle.canonical_layout.specs.Steps.{InChain, LinkLaid, ChainLaid, Ready, AllLaid, Larger};
 use canonical_exchange::exchange;
 use columns::slot_at;
 use ptr::Slot;
@@ -114,9 +114,9 @@ pub fn start_of(prev: &[u16], o: Slot) -> Slot
     o
 }
 
-// The larger of two numbers. Promised is what a search from there needs: one of the two, and not below x. That it is not below y either only saves steps.
+// The larger of two numbers.
 pub fn larger(x: usize, y: usize) -> usize
-    ensures { λ r. ⌜ NotBelow x y r ⌝ }
+    ensures { λ r. ⌜ Larger x y r ⌝ }
 {
     if x < y {
         return y;

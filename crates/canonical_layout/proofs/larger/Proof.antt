@@ -9,5 +9,5 @@ pub larger-spec : {M : Type 1} → statement M
 larger-spec =
     tie.close
     (tie.spec
-    (λ c. record { low = omega arith; one = inr refl })
-    (λ c. record { low = omega arith; one = inl refl }))
+    (λ c. record { left = omega arith; right = omega arith; one = inr refl })
+    (λ c. record { left = omega arith; right = omega arith; one = inl refl }))
