@@ -161,6 +161,10 @@ module _ (a : Arena) (c : Lent) (laid found : ℕ) (waits : Waits a c laid found
 
 -- ---- the loop's needs
 
+-- two numbers have one larger one
+pub larger-determines : {x y r s : ℕ} → Larger x y r → Larger x y s → r ≡ s
+larger-determines h k = elim (h .one) [ inl e ↦ elim (k .one) [ inl f ↦ e ∙ sym f | inr f ↦ omega (arith, h .right, k .left) ] | inr e ↦ elim (k .one) [ inl f ↦ omega (arith, h .left, k .right) | inr f ↦ e ∙ sym f ] ]
+
 pub larger-within : {x y r m : ℕ} → Larger x y r → x ≤ m → y ≤ m → r ≤ m
 larger-within larger h k = elim (larger .one) [ inl e ↦ omega arith | inr e ↦ omega arith ]
 
