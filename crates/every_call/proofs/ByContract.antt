@@ -10,7 +10,7 @@ use native.Mathlib.Omega.{arith}
 use lib.ListN.{length, take}
 use lib.Dec.{eqb}
 use Rattle.definitions.specs.Columns.{at, written}
-use Rattle.definitions.specs.Arena.{Arena, linkCount}
+use Rattle.definitions.specs.Arena.{Arena, capacityLimit, largestGeneration, linkCount}
 use Rattle.definitions.specs.Check.{verdict, WellFormed}
 use Rattle.definitions.specs.Reply.{Reply}
 use Rattle.definitions.specs.Read.{Pointer}
@@ -20,13 +20,13 @@ use Rattle.definitions.specs.Calls.{Call, Check, Drain, Run, CompressCanonical,
 use Rattle.definitions.proofs.Tests.{by-test}
 use Rattle.definitions.proofs.Count.{In, in-cases, not-in-nil}
 use Rattle.statements.specs.Chains.{pieces}
-use Rattle.statements.specs.Demand3.{Accepted, OfOne}
+use Rattle.statements.specs.Demand3.{Accepted, Compressed, OfOne}
 use Rattle.statements.specs.DrainsChain.{DrainsChain}
 use Rattle.statements.specs.EveryCall.{Unchanged, AnswerWord}
 use Rattle.well_formed.proofs.WellFormed.{check-passes-exactly-if-well-formed}
 use Rattle.well_formed.proofs.Verdict.{verdict-bound}
 use Rattle.drains.proofs.DrainsChain.{done-drain-takes-the-chain}
-use Rattle.demand3.proofs.Demand3.{demand-3-at}
+use Rattle.demand3.proofs.Demand3.{demand-3, demand-3-at}
 use Rattle.every_call.proofs.RefusalChangesNothing.{refusal-changes-nothing}
 use Rattle.every_call.proofs.EveryCallKeeps.{every-call-keeps, any-calls-keep, inside-a-run}
 use Rattle.every_call.proofs.RunIsFold.{one-command, reply-of-a-run}
@@ -49,16 +49,18 @@ module _ (limit top : ℕ) (a : Arena) (l : List ℕ) (broken : ℕ) (r : Reply)
       subst (λ (s : Reply). DrainsChain limit top a (q .slot) (walkFrom a (q .slot)) l s) (sym (p .same))
       (done-drain-takes-the-chain limit top enough a q l (ap (λ (s : Reply). s .number) (sym (p .same)) ∙ done))
 
-  pub demand-3-by-contract : (reset : Bool) → Answers limit top (CompressCanonical reset) a l broken r → Accepted r →
-      OfOne limit top a (r .arena) (take (linkCount a) (r .back)) (linkCount a) (pieces (at (r .arena .next)) (linkCount a))
-  demand-3-by-contract reset p done =
-      demand-3-at limit top .one a (r .arena) (r .back)
-      (record {
+  pub compressed-by-contract : (reset : Bool) → Answers limit top (CompressCanonical reset) a l broken r → Accepted r → Compressed limit top a (r .arena) (r .back)
+  compressed-by-contract reset p done =
+      record {
         call = record { reset = reset; whereFrom = l };
         accepted = subst Accepted (p .same) done;
         left = ap (λ (s : Reply). s .arena) (sym (p .same));
         whereFrom = ap (λ (s : Reply). s .back) (sym (p .same));
-      })
+      }
+
+  pub demand-3-by-contract : (reset : Bool) → Answers limit top (CompressCanonical reset) a l broken r → Accepted r →
+      OfOne limit top a (r .arena) (take (linkCount a) (r .back)) (linkCount a) (pieces (at (r .arena .next)) (linkCount a))
+  demand-3-by-contract reset p done = demand-3-at limit top .one a (r .arena) (r .back) (compressed-by-contract reset p done)
 
   -- a run of whole commands with room for their answers
   pub run-by-contract : (ws : List ℕ) → Answers limit top (Run ws) a l broken r → verdict limit a ≡ 0 → length ws % commandWords ≡ 0 → length ws / commandWords ≤ length l →
@@ -71,6 +73,12 @@ module _ (limit top : ℕ) (a : Arena) (l : List ℕ) (broken : ℕ) (r : Reply)
   pub check-by-contract : Answers limit top Check a l broken r → r .number ≤ 11
   unfolding replyTo accepted
   check-by-contract p = subst (λ (s : Reply). s .number ≤ 11) (sym (p .same)) (by-test (eqb (verdict limit a) 0) (λ t. rw t (omega arith)) (λ t. rw t (verdict-bound limit a)))
+
+-- demand 3 at the port's own limits
+pub demand-3-of-the-port : (a : Arena) (l : List ℕ) (broken : ℕ) (r : Reply) (reset : Bool) → Answers capacityLimit largestGeneration (CompressCanonical reset) a l broken r → Accepted r →
+    OfOne capacityLimit largestGeneration a (r .arena) (take (linkCount a) (r .back)) (linkCount a) (pieces (at (r .arena .next)) (linkCount a))
+demand-3-of-the-port a l broken r reset p done =
+    demand-3 .one a (r .arena) (r .back) (compressed-by-contract capacityLimit largestGeneration a l broken r reset p done)
 
 module _ (limit top : ℕ) (a : Arena) (ok : WellFormed limit a) where
   -- calls made one after the other, and commands of a run

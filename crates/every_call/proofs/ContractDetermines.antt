@@ -3,6 +3,7 @@
 -- at which rule 11 fails. And it can be kept: for every call on every arena there are a slot and a reply that meet it. Assumes nothing.
 use Prim.Native.Nat.{ℕ}
 use mathlib.Core.Path.{_≡_, refl, sym, _∙_}
+use mathlib.Core.Logic.{_⊎_, inl, inr}
 use mathlib.Core.Bool.{true}
 use mathlib.Core.List.{List}
 use native.Mathlib.Decide.{ℕ-discrete}
@@ -36,3 +37,11 @@ slot-to-name limit a = elim (ℕ-discrete (verdict limit a) 11) [
 
 pub contract-can-be-kept : (limit top : ℕ) (c : Call) (a : Arena) (l : List ℕ) → (s : ℕ) × (r : Reply) × Answers limit top c a l s r
 contract-can-be-kept limit top c a l = let n = slot-to-name limit a in (n .0, replyTo limit top c a l, record { same = refl; names = n .1 })
+
+-- two programs that keep the contract: what each answers to a call on an arena with a slice handed in, and the slot that it names
+module _ (limit top : ℕ) (f g : Call → Arena → List ℕ → Reply) (x y : Call → Arena → List ℕ → ℕ) where
+  pub programs-agree : ((c : Call) (a : Arena) (l : List ℕ) → Answers limit top c a l (x c a l) (f c a l)) → ((c : Call) (a : Arena) (l : List ℕ) → Answers limit top c a l (y c a l) (g c a l)) →
+      (c : Call) (a : Arena) (l : List ℕ) → (f c a l ≡ g c a l) × ((x c a l ≡ y c a l) ⊎ (BrokenLink a (x c a l) × BrokenLink a (y c a l)))
+  programs-agree p q c a l =
+      let same = contract-determines limit top c a l (x c a l) (y c a l) (f c a l) (g c a l) (p c a l) (q c a l) in
+      (same .0, elim (ℕ-discrete (verdict limit a) 11) [ yes e ↦ inr (same .2 e) | no other ↦ inl (same .1 other) ])
