@@ -56,8 +56,3 @@ module _ {a : Arena} {r : Answer} (h : Verdict a r) where
             (λ t. rw (t, h .number) refl);
         names = h .names;
       }
-
--- what an export promises, spelled out: its reply is the definition's at the port's own limits, and with 11 it names a slot at which rule 11 fails
-pub promised : (c : Call) (a : Arena) (l : List ℕ) (r : Answer) (fields : List ℕ) (left : Arena) (back : List ℕ) → Answered c a l r fields left back
-    → (reply (r .number) fields left back ≡ replyTo capacityLimit largestGeneration c a l) × Names capacityLimit a (r .broken)
-promised c a l r fields left back h = (h .same, h .names)

@@ -6,11 +6,11 @@ use mathlib.Core.List.{List, [], _∷_}
 use native.Mathlib.Omega.{arith}
 use lib.ListN.{getD}
 use Rattle.definitions.specs.Columns.{at, slotsFrom, keep}
-use Rattle.definitions.specs.Arena.{Arena, arena, allocated, linkSlots, freeSlots}
-use Rattle.definitions.specs.Check.{misshapen, freelistWalk, namesBack, neighboursFine, allFine, countsOf, verdict}
+use Rattle.definitions.specs.Arena.{Arena, arena, capacityLimit, allocated, linkSlots, freeSlots}
+use Rattle.definitions.specs.Check.{misshapen, freelistWalk, namesBack, neighboursFine, allFine, countsOf, verdict, Names}
 use Rattle.definitions.specs.Reply.{Reply}
 use Rattle.definitions.specs.Edit.{nextGeneration, overflows, incGeneration}
-use Rattle.definitions.specs.Calls.{Check, IncGeneration, accepted, replyTo}
+use Rattle.definitions.specs.Calls.{Call, Check, IncGeneration, accepted, replyTo}
 use Rattle.answers.specs.declared.Answer.{Answer}
 use Rattle.answers.specs.Answered.{Verdict, Answered}
 
@@ -49,3 +49,12 @@ answered-back-refused p = omega (arith, ap (λ (r : Reply). getD (r .back) 0 0) 
 pub answered-broken-refused : Answered Check (lone 5) [] (answer 0 1) [] (lone 5) [] → ⊥
 unfolding at slotsFrom keep allocated linkSlots freeSlots misshapen freelistWalk namesBack neighboursFine allFine countsOf verdict
 answered-broken-refused p = omega (arith, p .names .none (λ e. omega (arith, e)))
+
+-- ---- in full: what the check answers, and what an export promises
+
+pub verdict-whole : (a : Arena) (r : Answer) → Verdict a r → (r .number ≡ verdict capacityLimit a) × Names capacityLimit a (r .broken)
+verdict-whole a r v = (v .number, v .names)
+
+pub answered-whole : (c : Call) (a : Arena) (l : List ℕ) (r : Answer) (fields : List ℕ) (left : Arena) (back : List ℕ) → Answered c a l r fields left back
+    → (record { number = r .number; fields = fields; arena = left; back = back } ≡ replyTo 65535 4294967295 c a l) × Names 65535 a (r .broken)
+answered-whole c a l r fields left back p = (p .same, p .names)

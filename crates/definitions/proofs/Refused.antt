@@ -5,3 +5,4 @@ pub mod Arenas
 pub mod Replies
 pub mod Tables
 pub mod Whole
+pub mod Meanings

@@ -1,5 +1,5 @@
 -- What follows for a program of which nothing is known but that it keeps the contract: a refusal has written nothing, what passed the check passes it afterwards, a drain that
--- is done has taken the chain, a canonical compression that is done meets demand 3, and each answer of a run is one of five words. Each is a theorem about the definitions,
+-- is done has taken the chain, a canonical compression that is done has kept what one compression keeps (the field `one` of demand 3), and each answer of a run is one of five words. Each is a theorem about the definitions,
 -- carried over by the contract's one equation. Assumes nothing.
 use Prim.Native.Nat.{ℕ, _≤_, _<_, _/_, _%_}
 use mathlib.Core.Path.{_≡_, refl, sym, ap, subst, _∙_}
@@ -12,7 +12,7 @@ use lib.Dec.{eqb}
 use Rattle.definitions.specs.Columns.{at, written}
 use Rattle.definitions.specs.Arena.{Arena, capacityLimit, largestGeneration, linkCount}
 use Rattle.definitions.specs.Check.{verdict, WellFormed}
-use Rattle.definitions.specs.Reply.{Reply}
+use Rattle.definitions.specs.Reply.{Reply, reply}
 use Rattle.definitions.specs.Read.{Pointer}
 use Rattle.definitions.specs.Walk.{walkFrom}
 use Rattle.definitions.specs.Run.{Command, commandWords, commandsOf, apply, applied, answersOf}
@@ -64,10 +64,8 @@ module _ (limit top : ℕ) (a : Arena) (l : List ℕ) (broken : ℕ) (r : Reply)
 
   -- a run of whole commands with room for their answers
   pub run-by-contract : (ws : List ℕ) → Answers limit top (Run ws) a l broken r → verdict limit a ≡ 0 → length ws % commandWords ≡ 0 → length ws / commandWords ≤ length l →
-      (r .arena ≡ applied top a (commandsOf ws)) × (r .back ≡ written (answersOf top a (commandsOf ws)) l)
-  run-by-contract ws p passes whole room =
-      let s = p .same ∙ reply-of-a-run limit top a ws l passes whole room in
-      (ap (λ (q : Reply). q .arena) s, ap (λ (q : Reply). q .back) s)
+      r ≡ reply 0 [] (applied top a (commandsOf ws)) (written (answersOf top a (commandsOf ws)) l)
+  run-by-contract ws p passes whole room = p .same ∙ reply-of-a-run limit top a ws l passes whole room
 
   -- the check answers none but the eleven rules
   pub check-by-contract : Answers limit top Check a l broken r → r .number ≤ 11

@@ -3,3 +3,4 @@ pub mod EveryCallKeeps
 pub mod RunIsFold
 pub mod ContractDetermines
 pub mod ByContract
+pub mod InFull

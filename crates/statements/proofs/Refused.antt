@@ -7,3 +7,4 @@ pub mod Calls
 pub mod Walks
 pub mod Drains
 pub mod Whole
+pub mod Meanings

@@ -1,18 +1,33 @@
--- The tables that are computed have all their rows: twelve marked cases, the corners, and the refusals of the check.
+-- The tables that are computed: each has all its rows, and of every row what the definitions answer and leave is what the row expects, with the port's own limits.
 use Prim.Native.Nat.{ℕ}
-use mathlib.Core.Path.{_≡_, refl}
+use mathlib.Core.Path.{_≡_, refl, ap}
+use mathlib.Core.List.{List, _∷_, _++_, map}
 use lib.ListN.{length}
+use Rattle.definitions.specs.Arena.{Arena, capacityLimit, largestGeneration}
+use Rattle.definitions.specs.Check.{verdict}
+use Rattle.definitions.specs.Reply.{Reply}
+use Rattle.definitions.specs.Calls.{repliesTo, arenaAfter}
 use Rattle.definitions.specs.Cases as cases
 use Rattle.definitions.specs.Refusals as refusals
 
-pub marked-cases-counted : length cases.rows ≡ 12
+-- what a row's calls answer, and the arena that they leave
+abbrev answered : cases.Row → cases.Answer
+answered row = record {
+  answers = map (λ (r : Reply). r .number ∷ r .fields ++ r .back) (repliesTo 65535 4294967295 (row .calls) (row .start));
+  left = arenaAfter 65535 4294967295 (row .calls) (row .start);
+}
+
+abbrev stored : cases.Row → cases.Answer
+stored row = record { answers = row .answers; left = row .left }
+
+pub marked-cases-whole : (length cases.rows ≡ 12) × (map answered cases.rows ≡ map stored cases.rows)
 unfolding cases.rows
-marked-cases-counted = refl
+marked-cases-whole = (refl, cases.marked-cases)
 
-pub corners-counted : length cases.corners ≡ 19
+pub corners-hold-whole : (length cases.corners ≡ 19) × (map answered cases.corners ≡ map stored cases.corners)
 unfolding cases.corners
-corners-counted = refl
+corners-hold-whole = (refl, cases.corners-hold)
 
-pub refusals-counted : length refusals.rows ≡ 38
+pub each-refusal-whole : (length refusals.rows ≡ 38) × (map (λ (r : refusals.Row). verdict 2 (r .of)) refusals.rows ≡ map (λ (r : refusals.Row). r .number) refusals.rows)
 unfolding refusals.rows
-refusals-counted = refl
+each-refusal-whole = (refl, refusals.each-refusal)

@@ -7,7 +7,7 @@ use mathlib.Core.List.{List}
 use lib.ListN.{length}
 use Rattle.definitions.specs.Columns.{at, count, firstOr, lastOr, Linked}
 use Rattle.definitions.specs.Arena.{Arena, stackLength, linkCount, root, current, linkSlots, isLink}
-use Rattle.definitions.specs.Check.{verdict, FailsAt, Names, Freelist, WellFormed}
+use Rattle.definitions.specs.Check.{verdict, FailsAt, Names, Freelist, WellFormed, SameRead}
 use Rattle.definitions.specs.Reply.{Reply}
 use Rattle.definitions.specs.Calls.{Call, replyTo, Answers}
 
@@ -29,12 +29,35 @@ pub well-formed-whole : (limit : ℕ) (a : Arena) → WellFormed limit a →
     × (2 ≤ current a)
     × (stackLength a ≤ length (a .prev))
     × (linkCount a ≡ length (linkSlots (a .generation) (stackLength a)))
+    × ((fs : List ℕ) × Freelist a fs)
     × ((x : ℕ) → isLink a x ≡ true → (at (a .prev) x ≡ 0 → ⊥) → (isLink a (at (a .prev) x) ≡ true) × (at (a .next) (at (a .prev) x) ≡ x))
     × ((x : ℕ) → isLink a x ≡ true → (at (a .next) x ≡ 0 → ⊥) → (isLink a (at (a .next) x) ≡ true) × (at (a .prev) (at (a .next) x) ≡ x))
-well-formed-whole limit a w = (w .header, w .small, w .next-length, w .generation-length, w .payload-length, w .generation, w .within, w .links, w .prev, w .next)
+well-formed-whole limit a w = (w .header, w .small, w .next-length, w .generation-length, w .payload-length, w .generation, w .within, w .links, w .freelist, w .prev, w .next)
 
 pub names-whole : (limit : ℕ) (a : Arena) (broken : ℕ) → Names limit a broken → (verdict limit a ≡ 11 → FailsAt a broken) × ((verdict limit a ≡ 11 → ⊥) → broken ≡ 0)
 names-whole limit a broken n = (n .one, n .none)
 
 pub answers-whole : (limit top : ℕ) (c : Call) (a : Arena) (l : List ℕ) (broken : ℕ) (r : Reply) → Answers limit top c a l broken r → (r ≡ replyTo limit top c a l) × Names limit a broken
 answers-whole limit top c a l broken r p = (p .same, p .names)
+
+-- what is assumed of two arenas is no more than this
+pub same-read-whole : (a b : Arena) →
+    a .header ≡ b .header
+    → length (a .prev) ≡ length (b .prev)
+    → length (a .next) ≡ length (b .next)
+    → length (a .generation) ≡ length (b .generation)
+    → length (a .payload) ≡ length (b .payload)
+    → ((s : ℕ) → s ≤ stackLength a → at (a .generation) s ≡ at (b .generation) s)
+    → ((s : ℕ) → s ≤ stackLength a → at (a .next) s ≡ at (b .next) s)
+    → ((s : ℕ) → isLink a s ≡ true → at (a .prev) s ≡ at (b .prev) s)
+    → SameRead a b
+same-read-whole a b h p n g v gs ns ps = record {
+  header = h;
+  prev-length = p;
+  next-length = n;
+  generation-length = g;
+  payload-length = v;
+  generation = gs;
+  next = ns;
+  prev = ps;
+}

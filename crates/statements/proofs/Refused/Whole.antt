@@ -48,8 +48,8 @@ pub paired-whole : (R : Chain → Chain → Type 0) (cs ds : List Chain) (p : Pa
 paired-whole R cs ds p = (p .size, p .within, p .once, p .like)
 
 pub hold-the-same-whole : (a b : Arena) (h : HoldTheSame a b) → Listing a (h .ofA) × Listing b (h .ofB)
-    × ((k : ℕ) → k < length (h .ofA) → Alike (replaced (at (a .payload)) (nth (h .ofA) k)) (replaced (at (b .payload)) (nth (h .ofB) (h .paired .to k))))
-hold-the-same-whole a b h = (h .allA, h .allB, h .paired .like)
+    × Paired (λ c d. Alike (replaced (at (a .payload)) c) (replaced (at (b .payload)) d)) (h .ofA) (h .ofB)
+hold-the-same-whole a b h = (h .allA, h .allB, h .paired)
 
 pub renaming-whole : (a b : Arena) (w : List ℕ) (n : ℕ) → Renaming a b w n →
     (length w ≡ n)
@@ -102,22 +102,23 @@ module _ (limit top : ℕ) where
   Passes a f = (verdict limit a ≡ 0) × (length (f .whereFrom) ≡ capacity a)
 
   module _ (d : Demand3 limit top) where
-    compressed : (a : Arena) (f : Further) → Passes a f → Compressed limit top a (replied a f .arena) (replied a f .back)
-    compressed a f p = record { call = f; accepted = d .accepted a f (p .0) (p .1); left = refl; whereFrom = refl }
+    pub compressed-whole : (a : Arena) (f : Further) → Passes a f → Compressed limit top a (replied a f .arena) (replied a f .back)
+    compressed-whole a f p = record { call = f; accepted = d .accepted a f (p .0) (p .1); left = refl; whereFrom = refl }
 
     pub demand-3-one-whole : (a : Arena) (f : Further) → Passes a f →
         OfOne limit top a (replied a f .arena) (take (linkCount a) (replied a f .back)) (linkCount a) (pieces (at (replied a f .arena .next)) (linkCount a))
-    demand-3-one-whole a f p = d .one a (replied a f .arena) (replied a f .back) (compressed a f p)
+    demand-3-one-whole a f p = d .one a (replied a f .arena) (replied a f .back) (compressed-whole a f p)
 
     pub demand-3-listings-whole : (a : Arena) (f : Further) → Passes a f → (cs ds : List Chain) → Listing a cs → Listing a ds → Paired Alike cs ds
-    demand-3-listings-whole a f p = d .listings a (replied a f .arena) (replied a f .back) (compressed a f p)
+    demand-3-listings-whole a f p = d .listings a (replied a f .arena) (replied a f .back) (compressed-whole a f p)
 
     pub demand-3-same-whole : (a b : Arena) (f g : Further) → Passes a f → Passes b g → linkCount a ≡ linkCount b →
         Agree (replied a f .arena) (replied b g .arena) (linkCount a) → HoldTheSame a b
-    demand-3-same-whole a b f g p q = d .same a b (replied a f .arena) (replied b g .arena) (replied a f .back) (replied b g .back) (compressed a f p) (compressed b g q)
+    demand-3-same-whole a b f g p q = d .same a b (replied a f .arena) (replied b g .arena) (replied a f .back) (replied b g .back) (compressed-whole a f p) (compressed-whole b g q)
 
-    pub demand-3-unmoved-whole : (a : Arena) (f : Further) → Passes a f → (fs : List Further) → Unmoved limit top (replied a f .arena) (map made fs) (linkCount a)
-    demand-3-unmoved-whole a f p = d .unmoved a (replied a f .arena) (replied a f .back) (compressed a f p)
+    pub demand-3-unmoved-whole : (a : Arena) (f : Further) → Passes a f → (fs : List Further) →
+        Unmoved limit top (replied a f .arena) (map (λ (g : Further). record { call = CompressCanonical (g .reset); hands = g .whereFrom }) fs) (linkCount a)
+    demand-3-unmoved-whole a f p = d .unmoved a (replied a f .arena) (replied a f .back) (compressed-whole a f p)
 
 -- ---- every call, walks, drains
 

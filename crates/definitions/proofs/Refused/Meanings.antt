@@ -1,0 +1,75 @@
+-- What the definitions mean that statements are made of, in full and without their names: lists of slots, the place where rule 11 fails, calls made one after the
+-- other, and the arena that a contract speaks of at entry and at exit.
+use Prim.Native.Nat.{ℕ, suc, _+_}
+use mathlib.Core.Path.{_≡_, refl}
+use mathlib.Core.Logic.{_↔_}
+use mathlib.Core.Bool.{true, false, cond, not, _&&_}
+use mathlib.Core.List.{List, [], _∷_}
+use lib.ListN.{length, getD, drop}
+use lib.Dec.{eqb, leb}
+use denote.Ref.{now}
+use denote.Triple.Both.{Both}
+use Rattle.definitions.specs.Columns.{at, count, firstOr, lastOr, Linked, slotsFrom, keep}
+use Rattle.definitions.specs.Arena.{Arena, arena, stackLength, allocated, linkSlots, freeSlots, isLink}
+use Rattle.definitions.specs.Check.{FailsAt, neighboursFine}
+use Rattle.definitions.specs.Report.{itemSlots}
+use Rattle.definitions.specs.Calls.{Made, replyTo, repliesTo, arenaAfter}
+use Rattle.definitions.specs.Lent.{Column, atEntry, atExit}
+
+-- ---- words and lists
+
+pub at-whole : (xs : List ℕ) (i : ℕ) → (at xs 0 ≡ 0) × (at xs (suc i) ≡ getD xs i 0)
+unfolding at
+at-whole xs i = (refl, refl)
+
+pub count-whole : (x y : ℕ) (ys : List ℕ) → (count x [] ≡ 0) × (count x (y ∷ ys) ≡ cond (eqb x y) 1 0 + count x ys)
+unfolding count
+count-whole x y ys = (refl, refl)
+
+pub ends-whole : (z x : ℕ) (xs : List ℕ) → (firstOr z [] ≡ z) × (firstOr z (x ∷ xs) ≡ x) × (lastOr z [] ≡ z) × (lastOr z (x ∷ xs) ≡ lastOr x xs)
+unfolding firstOr lastOr
+ends-whole z x xs = (refl, refl, refl, refl)
+
+pub linked-whole : (next : ℕ → ℕ) (s : ℕ) (ss : List ℕ) (z : ℕ) → Linked next (s ∷ ss) z ↔ ((next s ≡ firstOr z ss) × Linked next ss z)
+unfolding Linked
+linked-whole next s ss z = (λ h. h, λ h. h)
+
+pub slots-from-whole : (s k : ℕ) → (slotsFrom s 0 ≡ []) × (slotsFrom s (suc k) ≡ s ∷ slotsFrom (suc s) k)
+unfolding slotsFrom
+slots-from-whole s k = (refl, refl)
+
+pub item-slots-whole : (items : ℕ) (report : List ℕ) → (itemSlots 0 report ≡ []) × (itemSlots (suc items) report ≡ getD report 0 0 ∷ itemSlots items (drop 5 report))
+unfolding itemSlots
+item-slots-whole items report = (refl, refl)
+
+-- ---- links and rule 11
+
+pub is-link-whole : (a : Arena) (s : ℕ) → isLink a s ≡ leb s (getD (a .header) 0 0) && not (eqb (at (a .generation) s) 0)
+unfolding allocated
+is-link-whole a s = refl
+
+pub link-slots-whole : (gs : List ℕ) (n : ℕ) → (linkSlots gs n ≡ keep (allocated gs n) (slotsFrom 1 n)) × (freeSlots gs n ≡ keep (λ s. not (allocated gs n s)) (slotsFrom 1 n))
+unfolding linkSlots freeSlots
+link-slots-whole gs n = (refl, refl)
+
+pub fails-at-whole : (a : Arena) (s : ℕ) → FailsAt a s ↔ (neighboursFine (a .prev) (a .next) (a .generation) (stackLength a) s ≡ false)
+fails-at-whole a s = (λ h. h, λ h. h)
+
+-- ---- calls one after the other
+
+module _ (limit top : ℕ) (m : Made) (ms : List Made) (a : Arena) where
+  pub replies-to-whole : (repliesTo limit top [] a ≡ [])
+      × (repliesTo limit top (m ∷ ms) a ≡ replyTo limit top (m .call) a (m .hands) ∷ repliesTo limit top ms (replyTo limit top (m .call) a (m .hands) .arena))
+  unfolding repliesTo
+  replies-to-whole = (refl, refl)
+
+  pub arena-after-whole : (arenaAfter limit top [] a ≡ a) × (arenaAfter limit top (m ∷ ms) a ≡ arenaAfter limit top ms (replyTo limit top (m .call) a (m .hands) .arena))
+  unfolding arenaAfter
+  arena-after-whole = (refl, refl)
+
+-- ---- what is lent: all five slices at entry, and all five at exit
+
+pub lent-whole : (ps ns gs vs h : Both Column Column) →
+    (atEntry ps ns gs vs h ≡ arena (now (ps .entry)) (now (ns .entry)) (now (gs .entry)) (now (vs .entry)) (now (h .entry)))
+    × (atExit ps ns gs vs h ≡ arena (now (ps .exit)) (now (ns .exit)) (now (gs .exit)) (now (vs .exit)) (now (h .exit)))
+lent-whole ps ns gs vs h = (refl, refl)

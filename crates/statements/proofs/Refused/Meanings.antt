@@ -1,0 +1,100 @@
+-- What each definition of specs/ means, in full and without its name: a definition that means something else, or means it for short lists or small arenas only, is
+-- refused although the small arenas of the other files do not show it.
+use Prim.Native.Nat.{ℕ, suc, _≤_}
+use mathlib.Core.Path.{_≡_, refl}
+use mathlib.Core.Logic.{_⊎_, _↔_}
+use mathlib.Core.Bool.{true, cond}
+use mathlib.Core.List.{List, [], _∷_, _++_, map}
+use lib.ListN.{take}
+use lib.Dec.{eqb}
+use Rattle.definitions.specs.Columns.{count, firstOr, lastOr, slotsFrom}
+use Rattle.definitions.specs.Arena.{Arena, current, isLink}
+use Rattle.definitions.specs.Edit.{overflows}
+use Rattle.definitions.specs.Remove.{removedAll}
+use Rattle.definitions.specs.Reply.{Reply}
+use Rattle.definitions.specs.Walk.{Walk, step}
+use Rattle.definitions.specs.Calls.{CompressCanonical, replyTo}
+use Rattle.statements.specs.Chains.{opened, closed, Some, OfLinks, IsOpen, IsClosed, Chain, IsChain, Rotation, Like, Alike, nth, extended, cut, marked, pieces, replaced}
+use Rattle.statements.specs.Demand3.{Accepted, Every, Further, made, compress}
+use Rattle.statements.specs.Answers.{answers}
+use Rattle.statements.specs.DrainsChain.{overflowsAt}
+
+abbrev Same : Type 0 → Type 0 → Type 0
+Same A B = A ↔ B
+
+itself : {A : Type 0} → Same A A
+itself = (λ h. h, λ h. h)
+
+-- ---- chains
+
+pub some-whole : (c : List ℕ) → Same (Some c) (c ≡ [] → ⊥)
+some-whole c = itself
+
+pub of-links-whole : (a : Arena) (c : List ℕ) → Same (OfLinks a c) ((s : ℕ) → 1 ≤ count s c → isLink a s ≡ true)
+of-links-whole a c = itself
+
+pub is-chain-whole : (a : Arena) (c : List ℕ) → Same (IsChain a opened c) (IsOpen a c) × Same (IsChain a closed c) (IsClosed a c)
+unfolding IsChain
+is-chain-whole a c = (itself, itself)
+
+pub rotation-whole : (c d : List ℕ) → Same (Rotation c d) ((u : List ℕ) × (v : List ℕ) × (c ≡ u ++ v) × (d ≡ v ++ u))
+unfolding Rotation
+rotation-whole c d = itself
+
+pub like-whole : (c d : List ℕ) → Same (Like opened c d) (c ≡ d) × Same (Like closed c d) (Rotation c d)
+unfolding Like
+like-whole c d = (itself, itself)
+
+pub alike-whole : (c d : Chain) → Same (Alike c d) ((c .kind ≡ d .kind) × Like (c .kind) (c .members) (d .members))
+unfolding Alike
+alike-whole c d = itself
+
+pub nth-whole : (c : Chain) (cs : List Chain) (k : ℕ) → (nth (c ∷ cs) 0 ≡ c) × (nth (c ∷ cs) (suc k) ≡ nth cs k)
+unfolding nth
+nth-whole c cs k = (refl, refl)
+
+-- ---- pieces
+
+pub extended-whole : (s : ℕ) (p : List ℕ) (ps : List (List ℕ)) → (extended s [] ≡ (s ∷ []) ∷ []) × (extended s (p ∷ ps) ≡ (s ∷ p) ∷ ps)
+unfolding extended
+extended-whole s p ps = (refl, refl)
+
+pub cut-whole : (next : ℕ → ℕ) (s : ℕ) (ss : List ℕ) →
+    (cut next [] ≡ []) × (cut next (s ∷ ss) ≡ cond (eqb (next s) (suc s)) (extended s (cut next ss)) ((s ∷ []) ∷ cut next ss))
+unfolding cut
+cut-whole next s ss = (refl, refl)
+
+pub marked-whole : (next : ℕ → ℕ) (p : List ℕ) → (marked next p .kind ≡ cond (eqb (next (lastOr 0 p)) (firstOr 0 p)) closed opened) × (marked next p .members ≡ p)
+unfolding marked
+marked-whole next p = (refl, refl)
+
+pub pieces-whole : (next : ℕ → ℕ) (n : ℕ) → pieces next n ≡ map (marked next) (cut next (slotsFrom 1 n))
+unfolding pieces
+pieces-whole next n = refl
+
+pub replaced-whole : (f : ℕ → ℕ) (c : Chain) → (replaced f c .kind ≡ c .kind) × (replaced f c .members ≡ map f (c .members))
+unfolding replaced
+replaced-whole f c = (refl, refl)
+
+-- ---- calls, walks, drains
+
+pub accepted-whole : (r : Reply) → Same (Accepted r) ((r .number ≡ 0) ⊎ (r .number ≡ 100))
+accepted-whole r = itself
+
+pub every-whole : (Q : Reply → Type 0) (r : Reply) (rs : List Reply) → Same (Every Q (r ∷ rs)) (Q r × Every Q rs)
+unfolding Every
+every-whole Q r rs = itself
+
+pub made-whole : (f : Further) → (made f .call ≡ CompressCanonical (f .reset)) × (made f .hands ≡ f .whereFrom)
+made-whole f = (refl, refl)
+
+pub compress-whole : (limit top : ℕ) (f : Further) (a : Arena) → compress limit top f a ≡ replyTo limit top (CompressCanonical (f .reset)) a (f .whereFrom)
+compress-whole limit top f a = refl
+
+pub answers-of-steps-whole : (a : Arena) (k : ℕ) (w : Walk) → (answers a 0 w ≡ []) × (answers a (suc k) w ≡ step a w .answer .slot ∷ answers a k (step a w .state))
+unfolding answers
+answers-of-steps-whole a k w = (refl, refl)
+
+pub overflows-at-whole : (top : ℕ) (a : Arena) (ss : List ℕ) (k : ℕ) → overflowsAt top a ss k ≡ overflows top (current (removedAll top a (take k ss)))
+unfolding overflowsAt
+overflows-at-whole top a ss k = refl
