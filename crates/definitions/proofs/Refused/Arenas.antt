@@ -67,8 +67,8 @@ pub well-formed-next-refused : WellFormed 2 (oneSided (0 ∷ 0 ∷ []) (2 ∷ 0 
 unfolding allocated at
 well-formed-next-refused w = omega (arith, w .next 1 refl (λ e. omega arith) .1)
 
--- a link whose neighbour on either side is a free slot that names it back
-pub well-formed-prev-is-no-link-refused : WellFormed 2 (arena (2 ∷ 0 ∷ []) (0 ∷ 1 ∷ []) (5 ∷ 0 ∷ []) (0 ∷ 0 ∷ []) (2 ∷ 1 ∷ 2 ∷ 5 ∷ [])) → ⊥
+-- a link whose neighbour names it back and is no link: above the stack, and free
+pub well-formed-prev-is-no-link-refused : WellFormed 2 (arena (2 ∷ 0 ∷ []) (0 ∷ 1 ∷ []) (5 ∷ 5 ∷ []) (0 ∷ 0 ∷ []) (1 ∷ 1 ∷ 0 ∷ 5 ∷ [])) → ⊥
 unfolding allocated at
 well-formed-prev-is-no-link-refused w = true≢false (sym (w .prev 1 refl (λ e. omega arith) .0))
 

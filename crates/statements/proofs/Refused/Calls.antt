@@ -1,12 +1,14 @@
 -- What the theorems about every call say: `Unchanged`, `AnswerWord`, `OneCommand`. For each field a wrong reply that it alone refuses.
 use Prim.Native.Nat.{ℕ}
 use mathlib.Core.Path.{_≡_, ap}
+use mathlib.Core.Logic.{inl, inr}
 use mathlib.Core.List.{List, [], _∷_}
 use native.Mathlib.Omega.{arith}
 use lib.ListN.{getD}
 use Rattle.definitions.specs.Columns.{count}
 use Rattle.definitions.specs.Arena.{Arena}
 use Rattle.definitions.specs.Reply.{reply}
+use Rattle.statements.specs.Demand3.{Accepted}
 use Rattle.statements.specs.EveryCall.{Unchanged, AnswerWord, done, done-with-overflow, stale, neighbour, no-code, OneCommand}
 use Rattle.definitions.proofs.Count.{In}
 use Rattle.statements.proofs.Refused.Chains.{lone, ring}
@@ -38,5 +40,9 @@ pub one-command-answer-refused : OneCommand lone (reply 14 [] lone []) → ⊥
 unfolding count
 one-command-answer-refused o = omega (arith, answer-word-no-other 14 (o .answer))
 
-pub one-command-refused-refused : OneCommand lone (reply 14 [] ring []) → ⊥
-one-command-refused-refused o = omega (arith, ap (λ (a : Arena). getD (a .next) 0 0) (o .refused accepted-refusal-refused))
+pub one-command-refused-refused : OneCommand lone (reply 12 [] ring []) → ⊥
+one-command-refused-refused o = omega (arith, ap (λ (a : Arena). getD (a .next) 0 0) (o .refused no))
+  where
+    no : Accepted (reply 12 [] ring []) → ⊥
+    no (inl e) = omega (arith, e)
+    no (inr e) = omega (arith, e)

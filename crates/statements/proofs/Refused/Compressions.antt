@@ -19,7 +19,7 @@ use Rattle.statements.specs.Chains.{IsOpen, Chain, IsChain, Like, Alike,
 use Rattle.definitions.specs.Calls.{Call, Made, Check, Connect, Remove, CanonicalizeFreelist, CompressCanonical, accepted, replyTo, repliesTo, arenaAfter}
 use Rattle.statements.specs.Demand3.{Accepted, Every, Agree, Further, made, LiesFrom, compress, Compressed, OfOne, Unmoved, Demand3}
 use Rattle.definitions.proofs.Count.{in-only, in-cases}
-use Rattle.statements.proofs.Refused.Chains.{openOf, one, lone, pair, on-one-chain-only, renaming-payload-refused}
+use Rattle.statements.proofs.Refused.Chains.{openOf, one, lone, pair, on-one-chain-only, listing-all-refused, renaming-payload-refused}
 
 -- ---- what is accepted
 
@@ -122,12 +122,11 @@ module _ (limit top : ℕ) where
       nowhere (suc (suc zero)) l = omega (arith, ap (λ (c : List ℕ). getD c 0 0) (l .came))
       nowhere (suc (suc (suc s))) l = omega (arith, l .within)
 
-  -- nor do the pieces, each slot by itself, come from the chains
-  pub of-one-chains-refused : OfOne limit top split split (1 ∷ 2 ∷ 3 ∷ []) 3 (pieces (at (split .next)) 3) → ⊥
-  unfolding pieces cut extended marked replaced nth at slotsFrom firstOr lastOr IsChain Linked
-  of-one-chains-refused o = omega (arith, o .chains .are 0 (omega arith) .linked .0)
+  -- a lone link of which no piece is left
+  pub of-one-chains-refused : OfOne limit top lone (one 0 0 6 7) (1 ∷ []) 1 [] → ⊥
+  of-one-chains-refused o = listing-all-refused (o .chains)
 
-  -- and the first piece does not end where its chain does
+  -- nothing is moved: the first piece does not end where its chain does
   pub of-one-ends-refused : OfOne limit top split split (1 ∷ 2 ∷ 3 ∷ []) 3 (pieces (at (split .next)) 3) → ⊥
   unfolding pieces cut extended marked nth at slotsFrom firstOr lastOr
   of-one-ends-refused o = omega (arith, o .ends 0 (omega arith) refl)

@@ -5,21 +5,22 @@ use mathlib.Core.Bool.{Bool, true, false, true≢false}
 use mathlib.Core.List.{List, [], _∷_}
 use native.Mathlib.Omega.{arith}
 use lib.ListN.{length, getD}
-use Rattle.definitions.specs.Columns.{at, put, count}
+use Rattle.definitions.specs.Columns.{at, put, count, firstOr, Linked}
 use Rattle.definitions.specs.Arena.{Arena, arena, allocated}
-use Rattle.statements.specs.Chains.{IsChain}
+use Rattle.statements.specs.Chains.{IsOpen, IsChain}
 use Rattle.definitions.specs.Edit.{nextGeneration, overflows}
 use Rattle.definitions.specs.Remove.{joined, vacated, removed, removedAll}
 use Rattle.definitions.specs.Reply.{Reply, reply}
 use Rattle.definitions.specs.Report.{itemSlots}
 use Rattle.statements.specs.DrainsChain.{Untouched, overflowsAt, DrainsChain}
 use Rattle.definitions.proofs.Slots.{count-nil, count-here, count-there}
-use Rattle.definitions.proofs.Count.{in-here}
-use Rattle.statements.proofs.Refused.Chains.{openOf, one, lone, pair, lone-is-open}
+use Rattle.definitions.proofs.Count.{in-here, in-only}
+use Rattle.statements.proofs.Refused.Chains.{openOf, one, lone, pair}
 
 -- ---- a link that is not what it was
 
-pub untouched-link-refused : Untouched lone (one 0 0 0 7) 1 → ⊥
+-- its words are as they were, but the stack has ended below it
+pub untouched-link-refused : Untouched lone (arena (0 ∷ []) (0 ∷ []) (5 ∷ []) (7 ∷ []) (0 ∷ 1 ∷ 0 ∷ 5 ∷ [])) 1 → ⊥
 unfolding allocated at
 untouched-link-refused u = true≢false (sym (u .link))
 
@@ -69,7 +70,7 @@ pub drains-chain-removed-refused : replies 0 (1 ∷ 0 ∷ []) lone (1 ∷ 5 ∷ 
 unfolding allocated at
 drains-chain-removed-refused d = true≢false (d .removed 1 (in-here 1 []))
 
-pub drains-chain-none-new-refused : replies 0 (1 ∷ 0 ∷ []) (arena (0 ∷ 0 ∷ []) (0 ∷ 0 ∷ []) (0 ∷ 5 ∷ []) (0 ∷ 0 ∷ []) (2 ∷ 1 ∷ 1 ∷ 6 ∷ [])) (1 ∷ 5 ∷ 0 ∷ 0 ∷ 7 ∷ 9 ∷ []) → ⊥
+pub drains-chain-none-new-refused : replies 0 (1 ∷ 0 ∷ []) (arena (0 ∷ 0 ∷ []) (1 ∷ 0 ∷ []) (0 ∷ 5 ∷ []) (0 ∷ 0 ∷ []) (2 ∷ 1 ∷ 1 ∷ 6 ∷ [])) (1 ∷ 5 ∷ 0 ∷ 0 ∷ 7 ∷ 9 ∷ []) → ⊥
 unfolding allocated at
 drains-chain-none-new-refused d = true≢false (sym (d .none-new 2 refl))
 
@@ -101,14 +102,27 @@ drains-chain-no-overflow-refused d = omega (arith, d .no-overflow none)
     none (suc k) h = absurd (omega arith)
 
 -- none is named although the first one did
-pub drains-chain-overflow-refused : DrainsChain 5 5 lone 1 (1 ∷ []) [] (reply 0 (1 ∷ 0 ∷ []) gone []) → ⊥
+pub drains-chain-overflow-refused : DrainsChain 5 5 lone 1 (1 ∷ []) [] (reply 0 (1 ∷ 0 ∷ []) gone (1 ∷ 5 ∷ 0 ∷ 0 ∷ 7 ∷ [])) → ⊥
 unfolding overflowsAt overflows removedAll
 drains-chain-overflow-refused d = omega (arith, d .overflow 0 (omega arith) refl)
 
--- nothing is drained, or the link twice
-pub drains-chain-exactly-refused : DrainsChain 5 9 lone 1 [] [] (reply 0 (0 ∷ 0 ∷ []) lone []) → ⊥
+-- where slot 2 has the lone slot 1 as its next, both are drained: 2, 1 is a chain, but so is 1 alone
+abbrev doubtful : Arena
+doubtful = arena (0 ∷ 0 ∷ []) (0 ∷ 1 ∷ []) (5 ∷ 5 ∷ []) (7 ∷ 8 ∷ []) (2 ∷ 2 ∷ 0 ∷ 5 ∷ [])
+
+abbrev bothGone : Arena
+bothGone = arena (0 ∷ 0 ∷ []) (1 ∷ 0 ∷ []) (0 ∷ 0 ∷ []) (0 ∷ 0 ∷ []) (1 ∷ 0 ∷ 1 ∷ 7 ∷ [])
+
+alone-is-open : IsOpen doubtful (1 ∷ [])
+unfolding Linked firstOr at allocated
+alone-is-open = record { some = λ e. omega (arith, ap length e); links = λ s i. rw (in-only s 1 i) refl; starts = refl; linked = (refl, tt) }
+
+pub drains-chain-exactly-refused : DrainsChain 5 9 doubtful 1 (1 ∷ 2 ∷ []) [] (reply 0 (2 ∷ 0 ∷ []) bothGone (1 ∷ 5 ∷ 0 ∷ 0 ∷ 7 ∷ 2 ∷ 5 ∷ 0 ∷ 0 ∷ 8 ∷ [])) → ⊥
 unfolding IsChain
-drains-chain-exactly-refused d = omega (arith, d .exactly (openOf (1 ∷ [])) lone-is-open (in-here 1 []) 1, count-nil 1, count-here 1 [])
+drains-chain-exactly-refused d =
+    omega (arith, d .exactly (openOf (1 ∷ [])) alone-is-open (in-here 1 []) 2, count-there 2 1 (2 ∷ []) (λ e. omega arith), count-here 2 [], count-there 2 1 [] (λ e. omega arith), count-nil 2)
+
+-- the link is drained twice
 
 pub drains-chain-once-refused : (r : Reply) → DrainsChain 5 9 lone 1 (1 ∷ 1 ∷ []) [] r → ⊥
 drains-chain-once-refused r d = omega (arith, d .once 1, count-here 1 (1 ∷ []), count-here 1 [])

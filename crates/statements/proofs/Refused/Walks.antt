@@ -14,7 +14,7 @@ use Rattle.statements.specs.WalkOrder.{WalkOrder, Walks}
 use Rattle.statements.specs.Answers.{answers}
 use Rattle.definitions.proofs.Slots.{count-here, allocated-within}
 use Rattle.definitions.proofs.Count.{in-here, in-only, in-cases}
-use Rattle.statements.proofs.Refused.Chains.{one, lone, ring, pair, kindNumber}
+use Rattle.statements.proofs.Refused.Chains.{one, ring, pair, kindNumber}
 
 -- ---- the order: a walk from the second link of two that leaves out the first one
 
@@ -73,8 +73,16 @@ walk-order-round-refused w = go (w .kind) (w .before) (w .after) (w .chain) (w .
 
 -- ---- a whole walk
 
-pub walks-order-refused : Walks pair 2 (2 ∷ []) → ⊥
-walks-order-refused w = walk-order-chain-and-order-refused (w .order)
+-- a link that is its own prev and has no next is on no chain, although a walk from it answers it and then none
+pub walks-order-refused : Walks (one 1 0 5 7) 1 (1 ∷ []) → ⊥
+unfolding IsChain Linked firstOr at
+walks-order-refused w = go (w .order .kind) (w .order .before) (w .order .after) (w .order .chain) (ap length (w .order .order))
+  where
+    go : (k : Kind) (u v : List ℕ) → IsChain (one 1 0 5 7) k (u ++ 1 ∷ v) → 1 ≡ length (1 ∷ v ++ reverse u) → ⊥
+    go k (x ∷ u) v c e = omega (arith, e, length-append v (reverse (x ∷ u)), turned-some u (x ∷ []) (omega arith))
+    go k [] (x ∷ v) c e = omega (arith, e)
+    go opened [] [] c e = omega (arith, c .starts)
+    go closed [] [] c e = omega (arith, c .linked .0)
 
 -- a free slot is answered, and a link twice
 pub walks-links-refused : Walks (one 0 0 0 0) 1 (1 ∷ []) → ⊥
@@ -84,10 +92,10 @@ walks-links-refused w = true≢false (sym (w .links 1 (in-here 1 [])))
 pub walks-once-refused : Walks ring 1 (1 ∷ 1 ∷ []) → ⊥
 walks-once-refused w = omega (arith, w .once 1, count-here 1 (1 ∷ []), count-here 1 [])
 
--- the steps answer one link more
-pub walks-then-none-refused : Walks lone 1 [] → ⊥
+-- a link count that is too small ends the walk before the second link
+pub walks-then-none-refused : Walks (arena (0 ∷ 1 ∷ []) (2 ∷ 0 ∷ []) (5 ∷ 5 ∷ []) (7 ∷ 8 ∷ []) (2 ∷ 1 ∷ 0 ∷ 5 ∷ [])) 1 (1 ∷ 2 ∷ []) → ⊥
 unfolding at allocated onward step walked
-walks-then-none-refused w = omega (arith, ap length (w .then-none 1 (omega arith)))
+walks-then-none-refused w = omega (arith, ap length (w .then-none 2 (omega arith)))
 
 -- ---- step by step, from the second of three links: the second, the third, the first, and none
 
