@@ -1,5 +1,6 @@
-//! No statement that is promised can be weakened unseen: each of its fields is used by a theorem that takes the statement as an assumption, and some must-fail edit makes the field say
-//! less. PROMISES names all these theorems, and none that is not there.
+//! What guards the promises is there: each field of a statement is used in its full range by a theorem that takes the statement as an assumption, and some must-fail edit makes the
+//! field say less; each definition that statements are made of has a theorem that says in full what it means; each theorem that PROMISES quotes is declared where PROMISES says, and stands
+//! once more in full on one page. PROMISES names all guards, and none that is not there.
 
 use std::collections::{BTreeMap, BTreeSet};
 use std::fs;
@@ -50,8 +51,9 @@ fn records() -> Vec<Record> {
                 let depth = line.len() - line.trim_start().len();
                 let declared = line.trim_start();
                 if let Some((at, record)) = &mut inside {
-                    if let Some(field) =
-                        declared.strip_prefix("pub ").filter(|_| depth > *at && !declared.starts_with("pub record"))
+                    if let Some(field) = declared
+                        .strip_prefix("pub ")
+                        .filter(|_| depth > *at && !declared.starts_with("pub record"))
                     {
                         let (name, of) = field.split_once(" : ").expect("a field with its type");
                         record.fields.push((name.to_string(), of.to_string(), line.to_string()));
@@ -117,7 +119,8 @@ fn guards(owner: &str) -> Vec<(String, String)> {
         let mut open = false;
         for line in text.lines() {
             let declared = line.trim_start();
-            let name = declared.strip_prefix("pub ").and_then(|rest| rest.split_once(" :")).map(|(name, _)| name);
+            let name =
+                declared.strip_prefix("pub ").and_then(|rest| rest.split_once(" :")).map(|(name, _)| name);
             if let Some(name) = name.filter(|name| !name.contains(' ')) {
                 found.push((name.to_string(), String::new()));
                 open = true;
@@ -151,14 +154,32 @@ fn edits(owner: &str) -> Vec<(String, String, String)> {
     found
 }
 
-/// Whether a text projects this field, `x .field`, or gives it, `field =`.
-fn uses(text: &str, field: &str, given: bool) -> bool {
-    let (before, after) = if given { ("", " =") } else { (" .", "") };
-    let wanted = format!("{before}{field}{after}");
-    text.match_indices(&wanted).any(|(at, _)| {
+/// Whether a guard projects this field from one of its own arguments that is no arena, `w .field`, or gives it, `field =`.
+fn uses(guard: &(String, String), field: &str, given: bool) -> bool {
+    let (name, text) = guard;
+    if given {
+        return text.contains(&format!(" {field} = "));
+    }
+    let head = text
+        .lines()
+        .map(str::trim_start)
+        .find(|line| line.starts_with(&format!("{name} ")) && !line.starts_with(&format!("{name} :")));
+    let Some((head, _)) = head.and_then(|line| line.split_once('=')) else { return false };
+    let arguments: Vec<&str> =
+        head.split_whitespace().skip(1).filter(|word| !["a", "b"].contains(word)).collect();
+    // the argument of a parameter of the whole module, as the demand itself
+    let arguments = arguments.into_iter().chain(["d"]);
+    let wanted = format!(" .{field}");
+    let mut at: Vec<(usize, &str)> = text.match_indices(&wanted).collect();
+    at.retain(|(at, _)| {
         let next = text[at + wanted.len()..].chars().next().unwrap_or(' ');
         !(next.is_alphanumeric() || next == '-')
-    })
+    });
+    let owners: Vec<&str> = at
+        .iter()
+        .map(|(at, _)| text[..*at].rsplit([' ', '(', '\n', ',']).next().unwrap_or_default())
+        .collect();
+    arguments.into_iter().any(|argument| owners.contains(&argument))
 }
 
 #[test]
@@ -169,11 +190,19 @@ fn every_field_of_a_statement_has_a_guard() {
     for record in &records {
         let prefix = format!("{}-", apart(&record.name, '-'));
         let assumed = ASSUMED.contains(&record.name.as_str());
-        let own: Vec<_> = guards(record.owner).into_iter().filter(|(name, _)| name.starts_with(&prefix)).collect();
+        let own: Vec<_> =
+            guards(record.owner).into_iter().filter(|(name, _)| name.starts_with(&prefix)).collect();
         for (field, of, _) in record.fields.iter().filter(|(_, of, _)| !is_data(of, &data)) {
+            let whole = own.iter().filter(|(name, _)| name.ends_with("-whole"));
             assert!(
-                own.iter().any(|(_, text)| uses(text, field, assumed)),
-                "no guard {prefix}.. uses {}.{field} : {of}",
+                whole.clone().any(|guard| uses(guard, field, assumed)),
+                "no guard {prefix}..whole uses {}.{field} : {of}",
+                record.name
+            );
+            let small = own.iter().filter(|(name, _)| !name.ends_with("-whole"));
+            assert!(
+                small.clone().any(|guard| uses(guard, field, assumed)),
+                "no small wrong case {prefix}.. uses {}.{field} : {of}",
                 record.name
             );
             fields += 1;
@@ -196,7 +225,11 @@ fn every_field_of_a_statement_is_weakened_by_an_edit() {
         let edited = |line: &str| here.iter().any(|edited| edited == line);
         let statements: Vec<_> = record.fields.iter().filter(|(_, of, _)| !is_data(of, &data)).collect();
         if ASSUMED.contains(&record.name.as_str()) {
-            assert!(statements.iter().any(|(_, _, line)| edited(line)), "no edit asks for more in {}", record.name);
+            assert!(
+                statements.iter().any(|(_, _, line)| edited(line)),
+                "no edit asks for more in {}",
+                record.name
+            );
             continue;
         }
         for (field, of, line) in statements {
@@ -209,6 +242,79 @@ fn every_field_of_a_statement_is_weakened_by_an_edit() {
             assert!(edited(line) || abbreviated, "no edit weakens {}.{field}", record.name);
         }
     }
+}
+
+/// What is declared by name in specs/ of a crate and computes: functions and abbreviations.
+fn definitions(owner: &str) -> BTreeSet<String> {
+    let mut found = BTreeSet::new();
+    for (_, text) in files(&crates().join(owner).join("specs")) {
+        for line in text.lines().map(str::trim_start) {
+            let rest = line.strip_prefix("abbrev pub ").or(line.strip_prefix("unfoldable pub "));
+            found.extend(rest.and_then(|rest| rest.split_once(" :")).map(|(name, _)| name.to_string()));
+        }
+    }
+    found
+}
+
+#[test]
+fn every_definition_that_a_statement_is_made_of_has_its_meaning_in_full() {
+    // what the calls compute: the code is held to these, and the tables of cases
+    let computed = ["verdict", "replyTo", "step", "overflows", "removedAll"];
+    let below = definitions("definitions");
+    let mut wanted: Vec<(&str, String)> = vec![];
+    for owner in ["statements", "answers"] {
+        wanted.extend(definitions(owner).into_iter().map(|name| (owner, name)));
+        for (_, text) in files(&crates().join(owner).join("specs")) {
+            for line in text.split("\nuse Rattle.definitions.specs.").skip(1) {
+                let names = line.split_once('{').unwrap().1.split_once('}').unwrap().0;
+                let names = names.split(',').map(str::trim).filter(|name| below.contains(*name));
+                wanted.extend(
+                    names
+                        .filter(|name| !computed.contains(name))
+                        .map(|name| ("definitions", name.to_string())),
+                );
+            }
+        }
+    }
+    assert!(wanted.len() > 30, "only {} definitions were found", wanted.len());
+    for (owner, name) in wanted {
+        let named = apart(&name, '-');
+        assert!(
+            guards(owner).iter().any(|(guard, _)| *guard == format!("{named}-whole")),
+            "no guard {named}-whole says what {name} means"
+        );
+    }
+}
+
+#[test]
+fn every_quoted_theorem_is_declared_and_stands_in_full() {
+    let promises = fs::read_to_string(crates().join("../docs/PROMISES.md")).unwrap();
+    let (_, table) = promises.split_once("## Theorems over the definitions").unwrap();
+    let (table, _) = table.split_once("\n## ").unwrap();
+    let page = fs::read_to_string(crates().join("every_call/proofs/InFull.antt")).unwrap();
+    let computed = fs::read_to_string(crates().join("demand3/proofs/Computed.antt")).unwrap();
+    let tables = fs::read_to_string(crates().join("definitions/proofs/Refused/Tables.antt")).unwrap();
+    let mut quoted = 0;
+    for row in table.lines().filter(|line| line.starts_with("| ")).skip(1) {
+        let cells: Vec<&str> = row.trim_matches('|').split(" | ").collect();
+        assert_eq!(cells.len(), 4, "{row}");
+        let linked: String = cells[2]
+            .split("](../")
+            .skip(1)
+            .map(|rest| {
+                fs::read_to_string(crates().join("..").join(rest.split(')').next().unwrap())).unwrap()
+            })
+            .collect();
+        for name in cells[1].split('`').skip(1).step_by(2) {
+            assert!(linked.contains(&format!("pub {name} :")), "{name} is not declared where PROMISES says");
+            let full = page.contains(&format!("pub {name}-in-full :"))
+                || tables.contains(&format!("pub {name}-whole :"))
+                || computed.contains(&format!("pub {name} :"));
+            assert!(full, "{name} does not stand in full");
+            quoted += 1;
+        }
+    }
+    assert!(quoted > 30, "only {quoted} theorems were found");
 }
 
 #[test]

@@ -213,8 +213,7 @@ fn promised(text: &str, call: &str) -> String {
             }
         }
     }
-    let words = call.strip_prefix("chain_arena_").unwrap_or(call).split('_');
-    let made: String = words.map(|word| word[..1].to_uppercase() + &word[1..]).collect();
+    let made = call_of(call);
     let made = if arguments.is_empty() { made } else { format!("({made} {})", arguments.join(" ")) };
     let (columns, answer) = (columns.join(" "), if of == "Answer" { "r" } else { "(r .answer)" });
     let fields = listed(fields);
@@ -238,21 +237,47 @@ fn every_export_promises_what_its_signature_asks_for_and_asks_nothing() {
     for call in calls() {
         assert_eq!(stated(&rattle, call), promised(&rattle, call), "{call}");
     }
-    // the words of a contract mean what the library's modules say: they come from there, and none is renamed
-    let homes = [
-        "definitions.specs.Lent",
-        "definitions.specs.Read",
-        "definitions.specs.Calls",
-        "answers.specs.Answered",
-    ];
+    // the words of a contract mean what these modules say: they come from there, and none is renamed
     for level in LEVELS {
         for line in exporting(level).lines().filter(|line| line.starts_with("ghost use ")) {
-            assert!(!line.contains(" as "), "{line}");
-            let ours = ["Answered", "atEntry", "atExit", "pointer"];
-            let names = between(line, "{", "}").split(", ").filter(|name| ours.contains(name)).count();
-            let home = homes.iter().any(|home| line.contains(&format!("Rattle.{home}.{{")));
-            assert!(names == 0 || home, "{line}");
+            assert!(from_home(line), "{line}");
         }
+    }
+}
+
+/// The call of a contract, as the definitions name it.
+fn call_of(export: &str) -> String {
+    let words = export.strip_prefix("chain_arena_").unwrap_or(export).split('_');
+    words.map(|word| word[..1].to_uppercase() + &word[1..]).collect()
+}
+
+/// Whether a line brings in each word of a contract from the module that gives it its meaning.
+fn from_home(line: &str) -> bool {
+    let (module, _) = line.trim_start_matches("ghost use ").split_once(".{").expect("a module and names");
+    let home = |name: &str| match name {
+        "Answered" => Some("Rattle.answers.specs.Answered"),
+        "atEntry" | "atExit" => Some("Rattle.definitions.specs.Lent"),
+        "pointer" => Some("Rattle.definitions.specs.Read"),
+        "not" => Some("mathlib.Core.Bool"),
+        "eqb" => Some("lib.Dec"),
+        "[]" | "_∷_" => Some("mathlib.Core.List"),
+        "now" => Some("the language itself"),
+        name => calls().any(|call| call_of(call) == name).then_some("Rattle.definitions.specs.Calls"),
+    };
+    !line.contains(" as ")
+        && between(line, "{", "}").split(", ").all(|name| home(name).is_none_or(|home| home == module))
+}
+
+#[test]
+fn a_word_of_a_contract_from_elsewhere_is_found() {
+    for line in [
+        "ghost use Rattle.answers.specs.Mine.{Connect, BreakPrev};",
+        "ghost use Rattle.answers.specs.Mine.{atExit};",
+        "ghost use Rattle.answers.specs.Mine.{now};",
+        "ghost use Rattle.answers.specs.Mine.{_∷_};",
+        "ghost use Rattle.definitions.specs.Calls.{Connect as BreakPrev, BreakPrev as Connect};",
+    ] {
+        assert!(!from_home(line), "{line}");
     }
 }
 

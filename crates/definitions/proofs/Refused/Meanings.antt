@@ -3,15 +3,17 @@
 use Prim.Native.Nat.{ℕ, suc, _+_}
 use mathlib.Core.Path.{_≡_, refl}
 use mathlib.Core.Logic.{_↔_}
-use mathlib.Core.Bool.{true, false, cond, not, _&&_}
+use mathlib.Core.Bool.{false, cond, not, _&&_}
 use mathlib.Core.List.{List, [], _∷_}
 use lib.ListN.{length, getD, drop}
 use lib.Dec.{eqb, leb}
 use denote.Ref.{now}
 use denote.Triple.Both.{Both}
 use Rattle.definitions.specs.Columns.{at, count, firstOr, lastOr, Linked, slotsFrom, keep}
-use Rattle.definitions.specs.Arena.{Arena, arena, stackLength, allocated, linkSlots, freeSlots, isLink}
+use Rattle.definitions.specs.Arena.{Arena, arena, capacity, capacityLimit, largestGeneration, stackLength, linkCount, root, current, allocated, linkSlots, freeSlots, isLink}
 use Rattle.definitions.specs.Check.{FailsAt, neighboursFine}
+use Rattle.definitions.specs.Reply.{reply}
+use Rattle.definitions.specs.Walk.{Walk, startAt, step, walked}
 use Rattle.definitions.specs.Report.{itemSlots}
 use Rattle.definitions.specs.Calls.{Made, replyTo, repliesTo, arenaAfter}
 use Rattle.definitions.specs.Lent.{Column, atEntry, atExit}
@@ -26,9 +28,13 @@ pub count-whole : (x y : ℕ) (ys : List ℕ) → (count x [] ≡ 0) × (count x
 unfolding count
 count-whole x y ys = (refl, refl)
 
-pub ends-whole : (z x : ℕ) (xs : List ℕ) → (firstOr z [] ≡ z) × (firstOr z (x ∷ xs) ≡ x) × (lastOr z [] ≡ z) × (lastOr z (x ∷ xs) ≡ lastOr x xs)
-unfolding firstOr lastOr
-ends-whole z x xs = (refl, refl, refl, refl)
+pub first-or-whole : (z x : ℕ) (xs : List ℕ) → (firstOr z [] ≡ z) × (firstOr z (x ∷ xs) ≡ x)
+unfolding firstOr
+first-or-whole z x xs = (refl, refl)
+
+pub last-or-whole : (z x : ℕ) (xs : List ℕ) → (lastOr z [] ≡ z) × (lastOr z (x ∷ xs) ≡ lastOr x xs)
+unfolding lastOr
+last-or-whole z x xs = (refl, refl)
 
 pub linked-whole : (next : ℕ → ℕ) (s : ℕ) (ss : List ℕ) (z : ℕ) → Linked next (s ∷ ss) z ↔ ((next s ≡ firstOr z ss) × Linked next ss z)
 unfolding Linked
@@ -41,6 +47,32 @@ slots-from-whole s k = (refl, refl)
 pub item-slots-whole : (items : ℕ) (report : List ℕ) → (itemSlots 0 report ≡ []) × (itemSlots (suc items) report ≡ getD report 0 0 ∷ itemSlots items (drop 5 report))
 unfolding itemSlots
 item-slots-whole items report = (refl, refl)
+
+-- ---- the words of an arena, and of a reply
+
+pub capacity-whole : (a : Arena) → capacity a ≡ length (a .prev)
+capacity-whole a = refl
+
+pub stack-length-whole : (a : Arena) → stackLength a ≡ getD (a .header) 0 0
+stack-length-whole a = refl
+
+pub link-count-whole : (a : Arena) → linkCount a ≡ getD (a .header) 1 0
+link-count-whole a = refl
+
+pub root-whole : (a : Arena) → root a ≡ getD (a .header) 2 0
+root-whole a = refl
+
+pub current-whole : (a : Arena) → current a ≡ getD (a .header) 3 0
+current-whole a = refl
+
+pub capacity-limit-whole : capacityLimit ≡ 65535
+capacity-limit-whole = refl
+
+pub largest-generation-whole : largestGeneration ≡ 4294967295
+largest-generation-whole = refl
+
+pub reply-whole : (k : ℕ) (fs : List ℕ) (a : Arena) (l : List ℕ) → (reply k fs a l .number ≡ k) × (reply k fs a l .fields ≡ fs) × (reply k fs a l .arena ≡ a) × (reply k fs a l .back ≡ l)
+reply-whole k fs a l = (refl, refl, refl, refl)
 
 -- ---- links and rule 11
 
@@ -55,7 +87,15 @@ link-slots-whole gs n = (refl, refl)
 pub fails-at-whole : (a : Arena) (s : ℕ) → FailsAt a s ↔ (neighboursFine (a .prev) (a .next) (a .generation) (stackLength a) s ≡ false)
 fails-at-whole a s = (λ h. h, λ h. h)
 
--- ---- calls one after the other
+-- ---- a walk, and calls one after the other
+
+pub start-at-whole : (a : Arena) (s : ℕ) → (startAt a s .start ≡ s) × (startAt a s .position ≡ s) × (startAt a s .direction ≡ 0) × (startAt a s .left ≡ linkCount a)
+start-at-whole a s = (refl, refl, refl, refl)
+
+pub walked-whole : (a : Arena) (steps : ℕ) (w : Walk) →
+    (walked a 0 w ≡ []) × (walked a (suc steps) w ≡ cond (eqb (step a w .answer .slot) 0) [] (step a w .answer .slot ∷ walked a steps (step a w .state)))
+unfolding walked
+walked-whole a steps w = (refl, refl)
 
 module _ (limit top : ℕ) (m : Made) (ms : List Made) (a : Arena) where
   pub replies-to-whole : (repliesTo limit top [] a ≡ [])

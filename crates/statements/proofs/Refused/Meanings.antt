@@ -91,9 +91,9 @@ made-whole f = (refl, refl)
 pub compress-whole : (limit top : ℕ) (f : Further) (a : Arena) → compress limit top f a ≡ replyTo limit top (CompressCanonical (f .reset)) a (f .whereFrom)
 compress-whole limit top f a = refl
 
-pub answers-of-steps-whole : (a : Arena) (k : ℕ) (w : Walk) → (answers a 0 w ≡ []) × (answers a (suc k) w ≡ step a w .answer .slot ∷ answers a k (step a w .state))
+pub answers-whole : (a : Arena) (k : ℕ) (w : Walk) → (answers a 0 w ≡ []) × (answers a (suc k) w ≡ step a w .answer .slot ∷ answers a k (step a w .state))
 unfolding answers
-answers-of-steps-whole a k w = (refl, refl)
+answers-whole a k w = (refl, refl)
 
 pub overflows-at-whole : (top : ℕ) (a : Arena) (ss : List ℕ) (k : ℕ) → overflowsAt top a ss k ≡ overflows top (current (removedAll top a (take k ss)))
 unfolding overflowsAt

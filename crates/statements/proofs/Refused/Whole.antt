@@ -102,6 +102,9 @@ module _ (limit top : ℕ) where
   Passes a f = (verdict limit a ≡ 0) × (length (f .whereFrom) ≡ capacity a)
 
   module _ (d : Demand3 limit top) where
+    pub demand-3-accepted-whole : (a : Arena) (f : Further) → verdict limit a ≡ 0 → length (f .whereFrom) ≡ capacity a → Accepted (replied a f)
+    demand-3-accepted-whole a f p q = d .accepted a f p q
+
     pub compressed-whole : (a : Arena) (f : Further) → Passes a f → Compressed limit top a (replied a f .arena) (replied a f .back)
     compressed-whole a f p = record { call = f; accepted = d .accepted a f (p .0) (p .1); left = refl; whereFrom = refl }
 
