@@ -51,15 +51,14 @@ fn records() -> Vec<Record> {
                 let depth = line.len() - line.trim_start().len();
                 let declared = line.trim_start();
                 if let Some((at, record)) = &mut inside {
-                    if let Some(field) = declared
-                        .strip_prefix("pub ")
-                        .filter(|_| depth > *at && !declared.starts_with("pub record"))
-                    {
-                        let (name, of) = field.split_once(" : ").expect("a field with its type");
+                    if depth > *at {
+                        if declared.starts_with("--") {
+                            continue;
+                        }
+                        // a field that is not public would be a part of the statement that nobody can use
+                        let field = declared.strip_prefix("pub ").and_then(|field| field.split_once(" : "));
+                        let (name, of) = field.unwrap_or_else(|| panic!("{file}: {line} is no public field"));
                         record.fields.push((name.to_string(), of.to_string(), line.to_string()));
-                        continue;
-                    }
-                    if depth > *at && declared.starts_with("--") {
                         continue;
                     }
                     found.push(inside.take().unwrap().1);
@@ -292,7 +291,6 @@ fn every_quoted_theorem_is_declared_and_stands_in_full() {
     let (_, table) = promises.split_once("## Theorems over the definitions").unwrap();
     let (table, _) = table.split_once("\n## ").unwrap();
     let page = fs::read_to_string(crates().join("every_call/proofs/InFull.antt")).unwrap();
-    let computed = fs::read_to_string(crates().join("demand3/proofs/Computed.antt")).unwrap();
     let tables = fs::read_to_string(crates().join("definitions/proofs/Refused/Tables.antt")).unwrap();
     let mut quoted = 0;
     for row in table.lines().filter(|line| line.starts_with("| ")).skip(1) {
@@ -308,13 +306,51 @@ fn every_quoted_theorem_is_declared_and_stands_in_full() {
         for name in cells[1].split('`').skip(1).step_by(2) {
             assert!(linked.contains(&format!("pub {name} :")), "{name} is not declared where PROMISES says");
             let full = page.contains(&format!("pub {name}-in-full :"))
-                || tables.contains(&format!("pub {name}-whole :"))
-                || computed.contains(&format!("pub {name} :"));
+                || page.contains(&format!("pub {name} :"))
+                || tables.contains(&format!("pub {name}-whole :"));
             assert!(full, "{name} does not stand in full");
             quoted += 1;
         }
+        // a theorem among the guards stands in full too, or is a guard by its place
+        let placed: Vec<String> =
+            PROMISED.iter().flat_map(|owner| guards(owner)).map(|(name, _)| name).collect();
+        for name in cells[3].split('`').skip(1).step_by(2).filter(|name| name.contains('-')) {
+            let full =
+                page.contains(&format!("pub {name}-in-full :")) || placed.iter().any(|guard| guard == name);
+            assert!(full, "{name}, a guard in PROMISES, does not stand in full");
+        }
     }
     assert!(quoted > 30, "only {quoted} theorems were found");
+}
+
+/// A number for a text that another text will hardly have (FNV-1a).
+fn digest(text: &str) -> u64 {
+    text.bytes()
+        .fold(0xcbf2_9ce4_8422_2325, |sum, byte| (sum ^ u64::from(byte)).wrapping_mul(0x100_0000_01b3))
+}
+
+#[test]
+fn no_row_of_a_computed_table_is_exchanged_for_another() {
+    let table = |file: &str, from: &str, to: &str| {
+        let text = fs::read_to_string(crates().join("definitions/specs").join(file)).unwrap();
+        let (_, behind) = text.split_once(from).unwrap();
+        let (table, _) = behind.split_once(to).unwrap();
+        let rows: Vec<String> = table
+            .lines()
+            .map(str::trim)
+            .filter(|line| line.starts_with("row ") || line.starts_with("record "))
+            .map(str::to_string)
+            .collect();
+        assert_eq!(rows.iter().collect::<BTreeSet<_>>().len(), rows.len(), "{file} has a row twice");
+        (rows.len(), digest(&rows.concat()))
+    };
+    // whoever changes a row changes its table's number here
+    let tables = [
+        table("Cases.antt", "\nrows =", "pub marked-cases"),
+        table("Cases.antt", "\ncorners =", "pub corners-hold"),
+        table("Refusals.antt", "\nrows =", "pub each-refusal"),
+    ];
+    assert_eq!(tables, [(12, 0x72e39797dfdde544), (19, 0x8a8286f44e0ef382), (38, 0x9e7064ed5328ea34)]);
 }
 
 #[test]

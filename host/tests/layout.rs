@@ -268,6 +268,27 @@ fn from_home(line: &str) -> bool {
         && between(line, "{", "}").split(", ").all(|name| home(name).is_none_or(|home| home == module))
 }
 
+/// Whether every export, and every struct of its result, is declared once in these sources, and the export as one.
+fn declared_once(text: &str) -> bool {
+    calls().all(|call| {
+        let exported = text.matches(&format!("#[no_mangle]\npub extern \"C\" fn {call}(")).count();
+        let of = result(text, call);
+        exported == 1
+            && text.matches(&format!("fn {call}(")).count() == 1
+            && text.matches(&format!("struct {of} {{")).count() == 1
+    })
+}
+
+#[test]
+fn what_is_looked_at_is_what_is_exported() {
+    let rattle = rattle();
+    assert!(declared_once(&rattle));
+    for call in calls() {
+        let decoy = format!("fn {call}(prev: &[u16]) -> Answer\n    ensures {{ λ r. ⌜ r ≡ r ⌝ }}\n{{\n}}\n");
+        assert!(!declared_once(&format!("{decoy}{rattle}")), "{call}");
+    }
+}
+
 #[test]
 fn a_word_of_a_contract_from_elsewhere_is_found() {
     for line in [

@@ -1,41 +1,47 @@
 -- Every theorem that docs/PROMISES.md quotes, once more on one page and in full: whoever reads this page and the definitions has read all that is proved of them. Each is
 -- proved by the theorem that it repeats, so that a theorem that says less than this page is refused. Assumes nothing.
 use Prim.Native.Nat.{ℕ, _+_, _*_, _≤_, _<_, _/_, _%_}
-use mathlib.Core.Path.{_≡_}
-use mathlib.Core.Logic.{_⊎_, _↔_}
+use mathlib.Core.Path.{_≡_, refl, sym, ap, subst, _∙_}
+use mathlib.Core.Logic.{_⊎_, inl, inr, _↔_}
 use mathlib.Core.Bool.{Bool, true, false}
-use mathlib.Core.List.{List, [], _∷_, _++_, reverse}
-use lib.ListN.{length, replicate, take}
+use mathlib.Core.List.{List, [], _∷_, _++_, map, reverse}
+use lib.ListN.{length, replicate, take, getD}
+use lib.Dec.{eqb}
+use borrow.Author.Tests.{eq-eqb, ne-eqb, eqb-true}
 use Rattle.definitions.specs.Columns.{at, count, written}
-use Rattle.definitions.specs.Arena.{Arena, linkCount, isLink}
+use Rattle.definitions.specs.Arena.{Arena, arena, stackLength, linkCount, linkSlots, isLink}
 use Rattle.definitions.specs.Check.{verdict, FailsAt, WellFormed, SameRead}
 use Rattle.definitions.specs.Reply.{Reply, reply}
 use Rattle.definitions.specs.Read.{Pointer, pointer, stale}
-use Rattle.definitions.specs.Walk.{Walk, startAt, step, walkFrom}
+use Rattle.definitions.specs.Walk.{Walk, startAt, stateOf, step, walkStep, walkFrom}
 use Rattle.definitions.specs.Remove.{drain}
 use Rattle.definitions.specs.Run.{Command, commandsOf, apply, applied, answersOf}
-use Rattle.definitions.specs.Compress.{relocate, compressWith, compressCanonical}
-use Rattle.definitions.specs.Calls.{Call, Made, Check, Drain, Run, CompressCanonical, replyTo, arenaAfter, Answers}
-use Rattle.statements.specs.Chains.{IsOpen, IsClosed, Chain, Alike, Listing, OnOneChain, Renaming, pieces, Paired}
+use Rattle.definitions.specs.Compress.{relocate, compressWith, laidOut, canonicalArena, compressCanonical}
+use Rattle.definitions.specs.Calls.{Call, Made, Check, WalkStep, Drain, Run, CompressWith, CompressCanonical, accepted, replyTo, arenaAfter, Answers}
+use Rattle.definitions.proofs.Tests.{by-test}
+use Rattle.statements.specs.Chains.{IsOpen, IsClosed, Chain, Alike, Listing, OnOneChain, Renaming, pieces, replaced, Paired}
 use Rattle.statements.specs.Demand3.{Agree, OfOne, Demand3}
 use Rattle.statements.specs.WalkOrder.{Walks}
 use Rattle.statements.specs.Answers.{answers}
 use Rattle.statements.specs.DrainsChain.{DrainsChain}
 use Rattle.statements.specs.EveryCall.{Unchanged, AnswerWord, OneCommand}
 use Rattle.well_formed.proofs.WellFormed.{check-passes-exactly-if-well-formed}
-use Rattle.well_formed.proofs.ReadsOnly.{verdict-reads-only}
+use Rattle.well_formed.proofs.ReadsOnly.{verdict-reads-only, payloads-are-not-read}
 use Rattle.well_formed.proofs.Verdict.{eleven-fails, verdict-bound}
 use Rattle.chains.proofs.Links.{well-formed-linked}
+use Rattle.demand3.proofs.Equivalence.{well-formed-room}
 use Rattle.chains.proofs.Listings.{every-link-on-one-chain, listings-pair}
 use Rattle.walks.proofs.Walks.{walk-gives-chain}
 use Rattle.walks.proofs.ChainOrder.{walk-open, walk-closed}
-use Rattle.walks.proofs.AnyState.{step-answers-links, none-after-none, walk-then-none}
+use Rattle.walks.proofs.AnyState.{step-answers-links, none-after-none, walk-then-none, answers-are-links, none-again, walk-then-one-none}
 use Rattle.kept.proofs.Runs.{run-goes-on, answers-go-on}
 use Rattle.drains.proofs.DrainsChain.{drain-takes-the-chain, done-drain-takes-the-chain}
 use Rattle.renaming.proofs.Relocated.{any-order-renames, any-order-well-formed}
 use Rattle.renaming.proofs.Determined.{renaming-determines}
-use Rattle.renaming.proofs.CompressWith.{compressWith-keeps}
+use Rattle.renaming.proofs.CompressWith.{compress-with-renames, compressWith-keeps}
 use Rattle.demand3.proofs.Kept.{compressCanonical-keeps}
+use Rattle.demand3.proofs.Equivalence.{exchanges-are-renaming, where-from, links-laid}
+use Rattle.demand3.proofs.Computed.{canonical-overflows, canonical-resets, order-preserving-overflows, moving-nothing-is-refused}
 use Rattle.demand3.proofs.Demand3.{demand-3, demand-3-at}
 use Rattle.every_call.proofs.RefusalChangesNothing.{refusal-changes-nothing}
 use Rattle.every_call.proofs.EveryCallKeeps.{every-call-keeps, any-calls-keep, inside-a-run}
@@ -56,6 +62,18 @@ eleven-fails-in-full = eleven-fails
 
 pub verdict-bound-in-full : (limit : ℕ) (a : Arena) → verdict limit a ≤ 11
 verdict-bound-in-full = verdict-bound
+
+-- the check answers the verdict, and so does every call where that is not 0
+pub check-answers-the-verdict : (limit top : ℕ) (a : Arena) (l : List ℕ) → replyTo limit top Check a l ≡ reply (verdict limit a) [] a l
+unfolding replyTo accepted
+check-answers-the-verdict limit top a l = by-test (eqb (verdict limit a) 0) (λ t. rw (t, eqb-true (verdict limit a) 0 t) refl) (λ t. rw t refl)
+
+pub refused-by-the-check : (limit top : ℕ) (c : Call) (a : Arena) (l : List ℕ) → (verdict limit a ≡ 0 → ⊥) → (replyTo limit top c a l .number ≡ verdict limit a) × (replyTo limit top c a l .arena ≡ a) × (replyTo limit top c a l .back ≡ l)
+unfolding replyTo
+refused-by-the-check limit top c a l broken = let e = ne-eqb (verdict limit a) 0 broken in (rw e refl, rw e refl, rw e refl)
+
+pub payloads-are-not-read-in-full : (limit : ℕ) (ps ns gs vs ws h : List ℕ) → length vs ≡ length ws → verdict limit (arena ps ns gs vs h) ≡ verdict limit (arena ps ns gs ws h)
+payloads-are-not-read-in-full = payloads-are-not-read
 
 -- ---- every call
 
@@ -80,6 +98,13 @@ reply-of-a-run-in-full = reply-of-a-run
 pub one-command-in-full : (top : ℕ) (a : Arena) (c : Command) → OneCommand a (apply top a c)
 one-command-in-full = one-command
 
+-- the same of the first command of a run
+pub one-command-of-a-run : (top : ℕ) (a : Arena) (c : Command) (w : ℕ) → answersOf top a (c ∷ []) ≡ w ∷ [] → AnswerWord w × (((w ≡ 0) ⊎ (w ≡ 100) → ⊥) → applied top a (c ∷ []) ≡ a)
+unfolding answersOf applied
+one-command-of-a-run top a c w e =
+    let same : apply top a c .number ≡ w = ap (λ (l : List ℕ). getD l 0 0) e in
+    (subst AnswerWord same (one-command top a c .answer), λ refused. one-command top a c .refused (λ done. refused (rw same at done)))
+
 pub run-goes-on-in-full : (top : ℕ) (a : Arena) (cs ds : List Command) → applied top a (cs ++ ds) ≡ applied top (applied top a cs) ds
 run-goes-on-in-full = run-goes-on
 
@@ -103,6 +128,30 @@ step-answers-links-in-full = step-answers-links
 
 pub none-after-none-in-full : (a : Arena) (k : ℕ) (w : Walk) → step a w .answer .slot ≡ 0 → answers a k (step a w .state) ≡ replicate k 0
 none-after-none-in-full = none-after-none
+
+pub answers-are-links-in-full : (a : Arena) (k : ℕ) (w : Walk) (s : ℕ) → 1 ≤ count s (answers a k w) → (s ≡ 0) ⊎ (isLink a s ≡ true)
+answers-are-links-in-full = answers-are-links
+
+pub none-again-in-full : (a : Arena) (w : Walk) → step a w .answer .slot ≡ 0 → step a (step a w .state) .answer .slot ≡ 0
+none-again-in-full = none-again
+
+-- the public call: a step answers a link with its generation, or none; and after none, in the state that is handed back, none
+pub step-by-call : (limit top : ℕ) (a : Arena) (l : List ℕ) → verdict limit a ≡ 0 →
+    (replyTo limit top WalkStep a l .fields ≡ 0 ∷ 0 ∷ [])
+    ⊎ ((isLink a (getD (replyTo limit top WalkStep a l .fields) 0 0) ≡ true)
+    × (getD (replyTo limit top WalkStep a l .fields) 1 0 ≡ at (a .generation) (getD (replyTo limit top WalkStep a l .fields) 0 0)))
+unfolding replyTo accepted walkStep
+step-by-call limit top a l passes =
+    rw (eq-eqb (verdict limit a) 0 passes)
+    (elim (step-answers-links a (stateOf l)) [ inl e ↦ inl (ap (λ (p : Pointer). p .slot ∷ p .generation ∷ []) e) | inr h ↦ inr h ])
+
+pub none-again-by-call : (limit top : ℕ) (a : Arena) (l : List ℕ) → verdict limit a ≡ 0 → getD (replyTo limit top WalkStep a l .fields) 0 0 ≡ 0
+    → getD (replyTo limit top WalkStep a (replyTo limit top WalkStep a l .back) .fields) 0 0 ≡ 0
+unfolding replyTo accepted walkStep
+none-again-by-call limit top a l passes = rw (eq-eqb (verdict limit a) 0 passes) (none-again a (stateOf l))
+
+pub walk-then-one-none-in-full : (a : Arena) (o : ℕ) → answers a (length (walkFrom a o) + 1) (startAt a o) ≡ walkFrom a o ++ 0 ∷ []
+walk-then-one-none-in-full = walk-then-one-none
 
 pub walk-then-none-in-full : (a : Arena) (o k : ℕ) → answers a (length (walkFrom a o) + k) (startAt a o) ≡ walkFrom a o ++ replicate k 0
 walk-then-none-in-full = walk-then-none
@@ -139,6 +188,10 @@ any-order-well-formed-in-full limit a ok w each only g h = any-order-well-formed
 pub renaming-determines-in-full : (a b c : Arena) (w : List ℕ) (n : ℕ) → Renaming a b w n → Renaming a c w n → Agree b c n
 renaming-determines-in-full = renaming-determines
 
+pub compress-with-renames-in-full : (limit top : ℕ) (a : Arena) → WellFormed limit a → (reset : Bool) (report : List ℕ) → 4 * linkCount a ≤ length report
+    → Renaming a (compressWith top reset a report .arena) (linkSlots (a .generation) (stackLength a)) (linkCount a)
+compress-with-renames-in-full = compress-with-renames
+
 pub compressWith-keeps-in-full : (limit top : ℕ) (a : Arena) → WellFormed limit a → (reset : Bool) (report : List ℕ) → WellFormed limit (compressWith top reset a report .arena)
 compressWith-keeps-in-full = compressWith-keeps
 
@@ -150,6 +203,35 @@ demand-3-in-full = demand-3
 
 pub demand-3-at-in-full : (limit top : ℕ) → Demand3 limit top
 demand-3-at-in-full = demand-3-at
+
+-- the exchanges lead to the arena in which the links are laid out in the canonical order, and the where-from column to that order
+pub exchanges-are-renaming-in-full : (limit : ℕ) (a : Arena) → WellFormed limit a → (g : ℕ) → canonicalArena g a ≡ relocate (take (linkCount a) (laidOut a .from)) g a
+exchanges-are-renaming-in-full limit a ok g =
+    let laid = links-laid limit 0 a ok false [] in
+    exchanges-are-renaming a (well-formed-linked ok) (well-formed-room ok) g (sym laid)
+    ∙ ap (λ (w : List ℕ). relocate w g a) (sym (rw laid at (where-from a (well-formed-linked ok) (well-formed-room ok))))
+
+-- computed: slot 1 free, 2→4, 3 closed alone, in a stack of 4 of capacity 5, at the largest generation
+abbrev largest : Arena
+largest = arena (0 ∷ 0 ∷ 3 ∷ 2 ∷ 7 ∷ []) (1 ∷ 4 ∷ 3 ∷ 0 ∷ 7 ∷ []) (0 ∷ 5 ∷ 5 ∷ 5 ∷ 7 ∷ []) (8 ∷ 12 ∷ 13 ∷ 14 ∷ 7 ∷ []) (4 ∷ 3 ∷ 1 ∷ 4294967295 ∷ [])
+
+pub canonical-overflows-in-full : replyTo 65535 4294967295 (CompressCanonical false) largest (9 ∷ 9 ∷ 9 ∷ 9 ∷ 9 ∷ []) ≡
+    reply 100 [] (arena (0 ∷ 1 ∷ 3 ∷ 0 ∷ 7 ∷ []) (2 ∷ 0 ∷ 3 ∷ 0 ∷ 7 ∷ []) (2 ∷ 2 ∷ 2 ∷ 0 ∷ 7 ∷ []) (12 ∷ 14 ∷ 13 ∷ 0 ∷ 7 ∷ []) (3 ∷ 3 ∷ 0 ∷ 2 ∷ [])) (2 ∷ 4 ∷ 3 ∷ 0 ∷ 9 ∷ [])
+canonical-overflows-in-full = canonical-overflows
+
+pub canonical-resets-in-full : replyTo 65535 4294967295 (CompressCanonical true) largest (9 ∷ 9 ∷ 9 ∷ 9 ∷ 9 ∷ []) ≡
+    reply 0 [] (arena (0 ∷ 1 ∷ 3 ∷ 0 ∷ 7 ∷ []) (2 ∷ 0 ∷ 3 ∷ 0 ∷ 7 ∷ []) (2 ∷ 2 ∷ 2 ∷ 0 ∷ 7 ∷ []) (12 ∷ 14 ∷ 13 ∷ 0 ∷ 7 ∷ []) (3 ∷ 3 ∷ 0 ∷ 2 ∷ [])) (2 ∷ 4 ∷ 3 ∷ 0 ∷ 9 ∷ [])
+canonical-resets-in-full = canonical-resets
+
+pub order-preserving-overflows-in-full : replyTo 65535 4294967295 (CompressWith false) largest (9 ∷ 9 ∷ 9 ∷ 9 ∷ 9 ∷ 9 ∷ 9 ∷ 9 ∷ 9 ∷ 9 ∷ 9 ∷ 9 ∷ 9 ∷ []) ≡
+    reply 100 [] (arena (0 ∷ 2 ∷ 1 ∷ 0 ∷ 7 ∷ []) (3 ∷ 2 ∷ 0 ∷ 0 ∷ 7 ∷ []) (2 ∷ 2 ∷ 2 ∷ 0 ∷ 7 ∷ []) (12 ∷ 13 ∷ 14 ∷ 0 ∷ 7 ∷ []) (3 ∷ 3 ∷ 0 ∷ 2 ∷ []))
+    (2 ∷ 5 ∷ 1 ∷ 2 ∷ 3 ∷ 5 ∷ 2 ∷ 2 ∷ 4 ∷ 5 ∷ 3 ∷ 2 ∷ 9 ∷ [])
+order-preserving-overflows-in-full = order-preserving-overflows
+
+-- K11 with every link left where it was
+pub moving-nothing-is-refused-in-full : Listing (arena (0 ∷ 0 ∷ 0 ∷ 0 ∷ 1 ∷ []) (5 ∷ 0 ∷ 0 ∷ 0 ∷ 0 ∷ []) (5 ∷ 5 ∷ 5 ∷ 5 ∷ 5 ∷ []) (11 ∷ 12 ∷ 13 ∷ 14 ∷ 15 ∷ []) (5 ∷ 5 ∷ 0 ∷ 5 ∷ []))
+    (map (replaced (at (1 ∷ 2 ∷ 3 ∷ 4 ∷ 5 ∷ []))) (pieces (at (5 ∷ 0 ∷ 0 ∷ 0 ∷ 0 ∷ [])) 5)) → ⊥
+moving-nothing-is-refused-in-full = moving-nothing-is-refused
 
 -- ---- the contract
 

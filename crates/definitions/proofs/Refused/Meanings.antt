@@ -3,15 +3,15 @@
 use Prim.Native.Nat.{ℕ, suc, _+_}
 use mathlib.Core.Path.{_≡_, refl}
 use mathlib.Core.Logic.{_↔_}
-use mathlib.Core.Bool.{false, cond, not, _&&_}
-use mathlib.Core.List.{List, [], _∷_}
+use mathlib.Core.Bool.{Bool, false, cond, not, _&&_, _||_}
+use mathlib.Core.List.{List, [], _∷_, _++_}
 use lib.ListN.{length, getD, drop}
 use lib.Dec.{eqb, leb}
 use denote.Ref.{now}
 use denote.Triple.Both.{Both}
-use Rattle.definitions.specs.Columns.{at, count, firstOr, lastOr, Linked, slotsFrom, keep}
+use Rattle.definitions.specs.Columns.{at, count, firstOr, lastOr, Linked, slotsFrom, keep, written}
 use Rattle.definitions.specs.Arena.{Arena, arena, capacity, capacityLimit, largestGeneration, stackLength, linkCount, root, current, allocated, linkSlots, freeSlots, isLink}
-use Rattle.definitions.specs.Check.{FailsAt, neighboursFine}
+use Rattle.definitions.specs.Check.{FailsAt, namesBack, neighboursFine}
 use Rattle.definitions.specs.Reply.{reply}
 use Rattle.definitions.specs.Walk.{Walk, startAt, step, walked}
 use Rattle.definitions.specs.Report.{itemSlots}
@@ -43,6 +43,14 @@ linked-whole next s ss z = (λ h. h, λ h. h)
 pub slots-from-whole : (s k : ℕ) → (slotsFrom s 0 ≡ []) × (slotsFrom s (suc k) ≡ s ∷ slotsFrom (suc s) k)
 unfolding slotsFrom
 slots-from-whole s k = (refl, refl)
+
+pub keep-whole : (test : ℕ → Bool) (x : ℕ) (xs : List ℕ) → (keep test [] ≡ []) × (keep test (x ∷ xs) ≡ cond (test x) (x ∷ keep test xs) (keep test xs))
+unfolding keep
+keep-whole test x xs = (refl, refl)
+
+pub written-whole : (ws old : List ℕ) → written ws old ≡ ws ++ drop (length ws) old
+unfolding written
+written-whole ws old = refl
 
 pub item-slots-whole : (items : ℕ) (report : List ℕ) → (itemSlots 0 report ≡ []) × (itemSlots (suc items) report ≡ getD report 0 0 ∷ itemSlots items (drop 5 report))
 unfolding itemSlots
@@ -84,7 +92,15 @@ pub link-slots-whole : (gs : List ℕ) (n : ℕ) → (linkSlots gs n ≡ keep (a
 unfolding linkSlots freeSlots
 link-slots-whole gs n = (refl, refl)
 
-pub fails-at-whole : (a : Arena) (s : ℕ) → FailsAt a s ↔ (neighboursFine (a .prev) (a .next) (a .generation) (stackLength a) s ≡ false)
+-- rule 11 at slot s, in full: s is no link of the stack, or its prev is 0 or a link whose next is s, and its next is 0 or a link whose prev is s
+-- (a neighbour of s is none, or a link that names s in the column back)
+abbrev fits : Arena → List ℕ → ℕ → ℕ → Bool
+fits a back s x = eqb x 0 || ((leb x (getD (a .header) 0 0) && not (eqb (at (a .generation) x) 0)) && eqb (at back x) s)
+
+pub fails-at-whole : (a : Arena) (s : ℕ) →
+    FailsAt a s
+    ↔ ((not (leb s (getD (a .header) 0 0) && not (eqb (at (a .generation) s) 0)) || (fits a (a .next) s (at (a .prev) s) && fits a (a .prev) s (at (a .next) s))) ≡ false)
+unfolding allocated namesBack neighboursFine
 fails-at-whole a s = (λ h. h, λ h. h)
 
 -- ---- a walk, and calls one after the other
