@@ -13,11 +13,11 @@ use Rattle.definitions.specs.Arena.{Arena, arena, stackLength, linkCount, linkS
 use Rattle.definitions.specs.Check.{verdict, FailsAt, WellFormed, SameRead}
 use Rattle.definitions.specs.Reply.{Reply, reply}
 use Rattle.definitions.specs.Read.{Pointer, pointer, stale}
-use Rattle.definitions.specs.Walk.{Walk, startAt, stateOf, step, walkStep, walkFrom}
+use Rattle.definitions.specs.Walk.{Walk, startAt, stateOf, step, walkStart, walkStep, walkFrom}
 use Rattle.definitions.specs.Remove.{drain}
 use Rattle.definitions.specs.Run.{Command, commandsOf, apply, applied, answersOf}
 use Rattle.definitions.specs.Compress.{relocate, compressWith, laidOut, canonicalArena, compressCanonical}
-use Rattle.definitions.specs.Calls.{Call, Made, Check, WalkStep, Drain, Run, CompressWith, CompressCanonical, accepted, replyTo, arenaAfter, Answers}
+use Rattle.definitions.specs.Calls.{Call, Made, Check, WalkStart, WalkStep, Drain, Run, CompressWith, CompressCanonical, accepted, replyTo, arenaAfter, Answers}
 use Rattle.definitions.proofs.Tests.{by-test}
 use Rattle.statements.specs.Chains.{IsOpen, IsClosed, Chain, Alike, Listing, OnOneChain, Renaming, pieces, replaced, Paired}
 use Rattle.statements.specs.Demand3.{Agree, OfOne, Demand3}
@@ -135,7 +135,18 @@ answers-are-links-in-full = answers-are-links
 pub none-again-in-full : (a : Arena) (w : Walk) → step a w .answer .slot ≡ 0 → step a (step a w .state) .answer .slot ≡ 0
 none-again-in-full = none-again
 
--- the public call: a step answers a link with its generation, or none; and after none, in the state that is handed back, none
+-- the public calls start a walk and make its steps
+pub walk-start-by-call : (limit top : ℕ) (a : Arena) (p : Pointer) (l : List ℕ) → verdict limit a ≡ 0 → stale a p ≡ false → replyTo limit top (WalkStart p) a l ≡ reply 0 (p .slot ∷ p .slot ∷ 0 ∷ linkCount a ∷ []) a l
+unfolding replyTo accepted walkStart
+walk-start-by-call limit top a p l passes good = rw (eq-eqb (verdict limit a) 0 passes, good) refl
+
+pub walk-step-by-call : (limit top : ℕ) (a : Arena) (l : List ℕ) → verdict limit a ≡ 0 →
+    (replyTo limit top WalkStep a l .fields ≡ step a (stateOf l) .answer .slot ∷ step a (stateOf l) .answer .generation ∷ [])
+    × (stateOf (replyTo limit top WalkStep a l .back) ≡ step a (stateOf l) .state)
+unfolding replyTo accepted walkStep
+walk-step-by-call limit top a l passes = let e = eq-eqb (verdict limit a) 0 passes in (rw e refl, rw e refl)
+
+-- a step answers a link with its generation, or none; and after none, in the state that is handed back, none
 pub step-by-call : (limit top : ℕ) (a : Arena) (l : List ℕ) → verdict limit a ≡ 0 →
     (replyTo limit top WalkStep a l .fields ≡ 0 ∷ 0 ∷ [])
     ⊎ ((isLink a (getD (replyTo limit top WalkStep a l .fields) 0 0) ≡ true)
@@ -191,6 +202,13 @@ renaming-determines-in-full = renaming-determines
 pub compress-with-renames-in-full : (limit top : ℕ) (a : Arena) → WellFormed limit a → (reset : Bool) (report : List ℕ) → 4 * linkCount a ≤ length report
     → Renaming a (compressWith top reset a report .arena) (linkSlots (a .generation) (stackLength a)) (linkCount a)
 compress-with-renames-in-full = compress-with-renames
+
+-- the public call
+pub compress-with-by-call : (limit top : ℕ) (a : Arena) (reset : Bool) (report : List ℕ) → verdict limit a ≡ 0 → 4 * linkCount a ≤ length report
+    → Renaming a (replyTo limit top (CompressWith reset) a report .arena) (linkSlots (a .generation) (stackLength a)) (linkCount a)
+unfolding replyTo accepted
+compress-with-by-call limit top a reset report passes room =
+    rw (eq-eqb (verdict limit a) 0 passes) (compress-with-renames limit top a (check-passes-exactly-if-well-formed limit a .0 passes) reset report room)
 
 pub compressWith-keeps-in-full : (limit top : ℕ) (a : Arena) → WellFormed limit a → (reset : Bool) (report : List ℕ) → WellFormed limit (compressWith top reset a report .arena)
 compressWith-keeps-in-full = compressWith-keeps
