@@ -29,13 +29,41 @@ fn read(name: &str) -> String {
     fs::read_to_string(root().join(name)).unwrap_or_else(|error| panic!("{name}: {error}"))
 }
 
-/// The Rattle source of the crates whose names begin with these words.
+/// The Rattle source of the crates whose names begin with these words, without comments. Each is one file, so that nothing is declared where nobody looks.
 fn sources(words: &str) -> String {
     let list = read("crates.txt");
     let crates = list.lines().filter_map(|line| line.split_once(':')).map(|(name, _)| name);
-    crates
-        .filter(|name| name.starts_with(words))
-        .map(|name| read(&format!("crates/{name}/src/lib.rt")))
+    let mut text = String::new();
+    for name in crates.filter(|name| name.starts_with(words)) {
+        let files = std::fs::read_dir(root().join(format!("crates/{name}/src"))).unwrap().count();
+        let source = read(&format!("crates/{name}/src/lib.rt"));
+        assert!(files == 1 && plain(&source), "{name} has more than one file of plain source");
+        text += &uncommented(&source);
+    }
+    text
+}
+
+/// Whether a source has no other module and no comment but those that begin a line with `//`.
+fn plain(source: &str) -> bool {
+    let words = |line: &str| line.split_whitespace().next().map(str::to_string).unwrap_or_default();
+    !source.contains("/*")
+        && source.lines().all(|line| {
+            let first = words(line);
+            let module = line.split_whitespace().any(|word| word == "mod");
+            let uses = line.matches("ghost use ").count();
+            first.starts_with("//")
+                || (!line.contains("//")
+                    && !module
+                    && (uses == 0 || (uses == 1 && line.starts_with("ghost use "))))
+        })
+}
+
+/// A plain source without its comments.
+fn uncommented(source: &str) -> String {
+    source
+        .lines()
+        .filter(|line| !line.trim_start().starts_with("//"))
+        .map(|line| format!("{line}\n"))
         .collect()
 }
 
@@ -287,6 +315,20 @@ fn what_is_looked_at_is_what_is_exported() {
         let decoy = format!("fn {call}(prev: &[u16]) -> Answer\n    ensures {{ λ r. ⌜ r ≡ r ⌝ }}\n{{\n}}\n");
         assert!(!declared_once(&format!("{decoy}{rattle}")), "{call}");
     }
+}
+
+#[test]
+fn a_declaration_where_nobody_looks_is_found() {
+    for source in [
+        "pub mod real;\n",
+        "/* pub extern \"C\" fn f() */\n",
+        " ghost use A.{B};\n",
+        "ghost use A.{B}; ghost use C.{D};\n",
+        "fn f() // {\n",
+    ] {
+        assert!(!plain(source), "{source}");
+    }
+    assert_eq!(uncommented("// fn f()\nfn g()\n"), "fn g()\n");
 }
 
 #[test]

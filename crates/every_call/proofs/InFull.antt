@@ -8,7 +8,7 @@ use mathlib.Core.List.{List, [], _∷_, _++_, map, reverse}
 use lib.ListN.{length, replicate, take, getD}
 use lib.Dec.{eqb}
 use borrow.Author.Tests.{eq-eqb, ne-eqb, eqb-true}
-use Rattle.definitions.specs.Columns.{at, count, written}
+use Rattle.definitions.specs.Columns.{at, count, written, settled}
 use Rattle.definitions.specs.Arena.{Arena, arena, stackLength, linkCount, linkSlots, isLink}
 use Rattle.definitions.specs.Check.{verdict, FailsAt, WellFormed, SameRead}
 use Rattle.definitions.specs.Reply.{Reply, reply}
@@ -16,9 +16,9 @@ use Rattle.definitions.specs.Read.{Pointer, pointer, stale}
 use Rattle.definitions.specs.Walk.{Walk, startAt, stateOf, step, walkStart, walkStep, walkFrom}
 use Rattle.definitions.specs.Remove.{drain}
 use Rattle.definitions.specs.Run.{Command, commandsOf, apply, applied, answersOf}
-use Rattle.definitions.specs.Compress.{relocate, compressWith, laidOut, canonicalArena, compressCanonical}
+use Rattle.definitions.specs.Compress.{compressGeneration, relocate, compressWith, laidOut, canonicalArena, compressCanonical}
 use Rattle.definitions.specs.Calls.{Call, Made, Check, WalkStart, WalkStep, Drain, Run, CompressWith, CompressCanonical, accepted, replyTo, arenaAfter, Answers}
-use Rattle.definitions.proofs.Tests.{by-test}
+use Rattle.definitions.proofs.Tests.{by-test, not-eq}
 use Rattle.statements.specs.Chains.{IsOpen, IsClosed, Chain, Alike, Listing, OnOneChain, Renaming, pieces, replaced, Paired}
 use Rattle.statements.specs.Demand3.{Agree, OfOne, Demand3}
 use Rattle.statements.specs.WalkOrder.{Walks}
@@ -228,6 +228,12 @@ exchanges-are-renaming-in-full limit a ok g =
     let laid = links-laid limit 0 a ok false [] in
     exchanges-are-renaming a (well-formed-linked ok) (well-formed-room ok) g (sym laid)
     ∙ ap (λ (w : List ℕ). relocate w g a) (sym (rw laid at (where-from a (well-formed-linked ok) (well-formed-room ok))))
+
+pub canonical-by-call : (limit top : ℕ) (a : Arena) (reset : Bool) (w : List ℕ) → verdict limit a ≡ 0 → length w ≡ length (a .prev) →
+    (replyTo limit top (CompressCanonical reset) a w .arena ≡ canonicalArena (compressGeneration top reset a) a)
+    × (replyTo limit top (CompressCanonical reset) a w .back ≡ settled (stackLength a) (take (linkCount a) (laidOut a .from)) w)
+unfolding replyTo accepted compressCanonical
+canonical-by-call limit top a reset w passes long = let e = eq-eqb (verdict limit a) 0 passes in let f = not-eq (length w) (length (a .prev)) long in (rw (e, f) refl, rw (e, f) refl)
 
 -- computed: slot 1 free, 2→4, 3 closed alone, in a stack of 4 of capacity 5, at the largest generation
 abbrev largest : Arena

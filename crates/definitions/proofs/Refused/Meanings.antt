@@ -1,19 +1,22 @@
 -- What the definitions mean that statements are made of, in full and without their names: lists of slots, the place where rule 11 fails, calls made one after the
 -- other, and the arena that a contract speaks of at entry and at exit.
-use Prim.Native.Nat.{ℕ, suc, _+_}
+use Prim.Native.Nat.{ℕ, suc, _+_, _-_, _*_, _/_}
 use mathlib.Core.Path.{_≡_, refl}
 use mathlib.Core.Logic.{_↔_}
 use mathlib.Core.Bool.{Bool, false, cond, not, _&&_, _||_}
-use mathlib.Core.List.{List, [], _∷_, _++_}
-use lib.ListN.{length, getD, drop}
-use lib.Dec.{eqb, leb}
+use mathlib.Core.List.{List, [], _∷_, _++_, map}
+use lib.ListN.{length, getD, drop, replicate}
+use lib.Dec.{eqb, leb, ltb}
 use denote.Ref.{now}
 use denote.Triple.Both.{Both}
-use Rattle.definitions.specs.Columns.{at, count, firstOr, lastOr, Linked, slotsFrom, keep, written}
+use Rattle.definitions.specs.Columns.{at, count, firstOr, lastOr, Linked, slotsFrom, keep, written, settled}
 use Rattle.definitions.specs.Arena.{Arena, arena, capacity, capacityLimit, largestGeneration, stackLength, linkCount, root, current, allocated, linkSlots, freeSlots, isLink}
 use Rattle.definitions.specs.Check.{FailsAt, namesBack, neighboursFine}
 use Rattle.definitions.specs.Reply.{reply}
-use Rattle.definitions.specs.Walk.{Walk, startAt, step, walked}
+use Rattle.definitions.specs.Walk.{Walk, startAt, stateOf, step, walked, walkFrom}
+use Rattle.definitions.specs.Read.{Pointer, pointer, stale}
+use Rattle.definitions.specs.Run.{commandAt, commandsOf}
+use Rattle.definitions.specs.Compress.{place, relocate}
 use Rattle.definitions.specs.Report.{itemSlots}
 use Rattle.definitions.specs.Calls.{Made, replyTo, repliesTo, arenaAfter}
 use Rattle.definitions.specs.Lent.{Column, atEntry, atExit}
@@ -36,9 +39,9 @@ pub last-or-whole : (z x : ℕ) (xs : List ℕ) → (lastOr z [] ≡ z) × (last
 unfolding lastOr
 last-or-whole z x xs = (refl, refl)
 
-pub linked-whole : (next : ℕ → ℕ) (s : ℕ) (ss : List ℕ) (z : ℕ) → Linked next (s ∷ ss) z ↔ ((next s ≡ firstOr z ss) × Linked next ss z)
+pub linked-whole : (next : ℕ → ℕ) (s : ℕ) (ss : List ℕ) (z : ℕ) → (Linked next [] z ↔ Unit {0}) × (Linked next (s ∷ ss) z ↔ ((next s ≡ firstOr z ss) × Linked next ss z))
 unfolding Linked
-linked-whole next s ss z = (λ h. h, λ h. h)
+linked-whole next s ss z = ((λ h. h, λ h. h), (λ h. h, λ h. h))
 
 pub slots-from-whole : (s k : ℕ) → (slotsFrom s 0 ≡ []) × (slotsFrom s (suc k) ≡ s ∷ slotsFrom (suc s) k)
 unfolding slotsFrom
@@ -52,11 +55,23 @@ pub written-whole : (ws old : List ℕ) → written ws old ≡ ws ++ drop (lengt
 unfolding written
 written-whole ws old = refl
 
+pub settled-whole : (n : ℕ) (ws old : List ℕ) → settled n ws old ≡ ws ++ (replicate (n - length ws) 0 ++ drop n old)
+unfolding settled
+settled-whole n ws old = refl
+
 pub item-slots-whole : (items : ℕ) (report : List ℕ) → (itemSlots 0 report ≡ []) × (itemSlots (suc items) report ≡ getD report 0 0 ∷ itemSlots items (drop 5 report))
 unfolding itemSlots
 item-slots-whole items report = (refl, refl)
 
 -- ---- the words of an arena, and of a reply
+
+pub arena-whole : (ps ns gs vs h : List ℕ) →
+    (arena ps ns gs vs h .prev ≡ ps)
+    × (arena ps ns gs vs h .next ≡ ns)
+    × (arena ps ns gs vs h .generation ≡ gs)
+    × (arena ps ns gs vs h .payload ≡ vs)
+    × (arena ps ns gs vs h .header ≡ h)
+arena-whole ps ns gs vs h = (refl, refl, refl, refl, refl)
 
 pub capacity-whole : (a : Arena) → capacity a ≡ length (a .prev)
 capacity-whole a = refl
@@ -103,10 +118,51 @@ pub fails-at-whole : (a : Arena) (s : ℕ) →
 unfolding allocated namesBack neighboursFine
 fails-at-whole a s = (λ h. h, λ h. h)
 
+pub stale-whole : (a : Arena) (p : Pointer) →
+    stale a p
+    ≡ eqb (p .slot) 0
+    || ltb (getD (a .header) 0 0) (p .slot)
+    || eqb (at (a .generation) (p .slot)) 0
+    || not (eqb (at (a .generation) (p .slot)) (p .generation))
+unfolding stale
+stale-whole a p = refl
+
+pub pointer-whole : (s g : ℕ) → (pointer s g .slot ≡ s) × (pointer s g .generation ≡ g)
+pointer-whole s g = (refl, refl)
+
+-- ---- commands by their words, and links in another order
+
+pub commands-of-whole : (ws : List ℕ) → commandsOf ws ≡ map (commandAt ws) (slotsFrom 0 (length ws / 5))
+commands-of-whole ws = refl
+
+pub command-at-whole : (ws : List ℕ) (i : ℕ) →
+    (commandAt ws i .code ≡ getD ws (5 * i) 0)
+    × (commandAt ws i .first ≡ pointer (getD ws (5 * i + 1) 0) (getD ws (5 * i + 2) 0))
+    × (commandAt ws i .second ≡ pointer (getD ws (5 * i + 3) 0) (getD ws (5 * i + 4) 0))
+command-at-whole ws i = (refl, refl, refl)
+
+pub relocate-whole : (w : List ℕ) (g : ℕ) (a : Arena) →
+    (relocate w g a .prev ≡ settled (stackLength a) (map (λ o. place w (at (a .prev) o)) w) (a .prev))
+    × (relocate w g a .next ≡ settled (stackLength a) (map (λ o. place w (at (a .next) o)) w) (a .next))
+    × (relocate w g a .generation ≡ settled (stackLength a) (map (λ o. g) w) (a .generation))
+    × (relocate w g a .payload ≡ settled (stackLength a) (map (λ o. at (a .payload) o) w) (a .payload))
+unfolding relocate
+relocate-whole w g a = (refl, refl, refl, refl)
+
+pub place-whole : (x : ℕ) (w : List ℕ) (o : ℕ) → (place [] o ≡ 0) × (place (x ∷ w) o ≡ cond (eqb x o) 1 (cond (eqb (place w o) 0) 0 (suc (place w o))))
+unfolding place
+place-whole x w o = (refl, refl)
+
 -- ---- a walk, and calls one after the other
 
 pub start-at-whole : (a : Arena) (s : ℕ) → (startAt a s .start ≡ s) × (startAt a s .position ≡ s) × (startAt a s .direction ≡ 0) × (startAt a s .left ≡ linkCount a)
 start-at-whole a s = (refl, refl, refl, refl)
+
+pub state-of-whole : (l : List ℕ) → (stateOf l .start ≡ getD l 0 0) × (stateOf l .position ≡ getD l 1 0) × (stateOf l .direction ≡ getD l 2 0) × (stateOf l .left ≡ getD l 3 0)
+state-of-whole l = (refl, refl, refl, refl)
+
+pub walk-from-whole : (a : Arena) (s : ℕ) → walkFrom a s ≡ walked a (linkCount a) (startAt a s)
+walk-from-whole a s = refl
 
 pub walked-whole : (a : Arena) (steps : ℕ) (w : Walk) →
     (walked a 0 w ≡ []) × (walked a (suc steps) w ≡ cond (eqb (step a w .answer .slot) 0) [] (step a w .answer .slot ∷ walked a steps (step a w .state)))

@@ -81,9 +81,9 @@ replaced-whole f c = (refl, refl)
 pub accepted-whole : (r : Reply) → Same (Accepted r) ((r .number ≡ 0) ⊎ (r .number ≡ 100))
 accepted-whole r = itself
 
-pub every-whole : (Q : Reply → Type 0) (r : Reply) (rs : List Reply) → Same (Every Q (r ∷ rs)) (Q r × Every Q rs)
+pub every-whole : (Q : Reply → Type 0) (r : Reply) (rs : List Reply) → Same (Every Q []) (Unit {0}) × Same (Every Q (r ∷ rs)) (Q r × Every Q rs)
 unfolding Every
-every-whole Q r rs = itself
+every-whole Q r rs = (itself, itself)
 
 pub made-whole : (f : Further) → (made f .call ≡ CompressCanonical (f .reset)) × (made f .hands ≡ f .whereFrom)
 made-whole f = (refl, refl)
