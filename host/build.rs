@@ -6,7 +6,7 @@ use std::path::{Path, PathBuf};
 use std::process::{Command, exit};
 
 #[expect(dead_code, reason = "the names that a level exports are for the tests")]
-#[path = "src/levels.rs"]
+#[path = "levels.rs"]
 mod levels;
 
 use levels::{LEVELS, Level};
@@ -56,7 +56,7 @@ fn wanted(level: &Level) -> bool {
 fn main() {
     let out = PathBuf::from(env::var_os("OUT_DIR").expect("cargo sets OUT_DIR"));
     println!("cargo::rerun-if-env-changed={READY}");
-    for read in ["build.rs", "src/levels.rs", "../archives", "../crates", "../crates.txt"] {
+    for read in ["build.rs", "levels.rs", "../archives", "../crates", "../crates.txt"] {
         println!("cargo::rerun-if-changed={read}");
     }
     println!("cargo::rustc-link-search=native={}", out.display());

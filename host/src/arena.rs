@@ -4,7 +4,8 @@ use crate::Slot;
 
 /// A lent arena to read. Slot s has index s - 1 in the four columns.
 ///
-/// Its calls are those of Level One. They write nothing, so it does no harm if two of the slices are the same memory.
+/// Its calls are those of Level One. They write nothing, so it does no harm if two of the slices are the same memory. To
+/// read much of an arena, begin with `checked`, which checks it once for all.
 #[derive(Clone, Copy, Debug)]
 pub struct Arena<'a> {
     /// Each link's neighbour before it, 0 for none
@@ -38,6 +39,7 @@ pub struct ArenaMut<'a> {
 
 impl ArenaMut<'_> {
     /// The arena to read.
+    #[must_use]
     pub fn as_arena(&self) -> Arena<'_> {
         Arena {
             prev: self.prev,
@@ -76,11 +78,13 @@ impl Header {
     pub const WORDS: usize = 4;
 
     /// The words in the order in which they are lent.
+    #[must_use]
     pub const fn words(self) -> [u32; Self::WORDS] {
         [self.stack_length, self.link_count, self.root, self.generation]
     }
 
     /// The header of lent words, none if their number is another.
+    #[must_use]
     pub fn of(words: &[u32]) -> Option<Self> {
         let &[stack_length, link_count, root, generation] = words else { return None };
         Some(Self { stack_length, link_count, root, generation })

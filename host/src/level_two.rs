@@ -4,7 +4,7 @@ use crate::ffi::PlainResult;
 use crate::link::answered_slot;
 use crate::{Answer, ArenaMut, Done, LinkNoGen, Ptr, Refusal, Run, Slot};
 
-/// The calls of Level Two.
+/// The calls of Level Two. Each begins with the check and gives its refusal, 1 to 11; a refused call has written nothing.
 ///
 /// ```
 /// use chain_arena::{ArenaMut, Ptr};
@@ -32,6 +32,11 @@ use crate::{Answer, ArenaMut, Done, LinkNoGen, Ptr, Refusal, Run, Slot};
 /// ```
 impl ArenaMut<'_> {
     /// Makes `p_next` the next of `p_prev`; a lone link that is connected to itself becomes a closed chain of one.
+    ///
+    /// # Errors
+    ///
+    /// 1 to 11 as [`Arena::check`](crate::Arena::check), then in this order: 12 if `p_prev` is stale, 13 if it has a next, 12 if
+    /// `p_next` is stale, 13 if it has a prev.
     pub fn connect(&mut self, p_prev: Ptr, p_next: Ptr) -> Result<(), Refusal> {
         plain(call!(chain_arena_connect(
             self,
@@ -44,16 +49,29 @@ impl ArenaMut<'_> {
     }
 
     /// Parts the link at `p` from the one before it.
+    ///
+    /// # Errors
+    ///
+    /// 1 to 11 as [`Arena::check`](crate::Arena::check), then 12 if `p` is stale, then 13 if it has no prev.
     pub fn break_prev(&mut self, p: Ptr) -> Result<(), Refusal> {
         plain(call!(chain_arena_break_prev(self, as_mut_ptr, p.slot, p.generation)))
     }
 
     /// Parts the link at `p` from the one after it.
+    ///
+    /// # Errors
+    ///
+    /// 1 to 11 as [`Arena::check`](crate::Arena::check), then 12 if `p` is stale, then 13 if it has no next.
     pub fn break_next(&mut self, p: Ptr) -> Result<(), Refusal> {
         plain(call!(chain_arena_break_next(self, as_mut_ptr, p.slot, p.generation)))
     }
 
     /// Gives each of the links at `p0` and `p1` the other one's next.
+    ///
+    /// # Errors
+    ///
+    /// 1 to 11 as [`Arena::check`](crate::Arena::check), then 12 if one of the pointers is stale, then 13 if one of the links has
+    /// no next.
     pub fn exchange_next(&mut self, p0: Ptr, p1: Ptr) -> Result<(), Refusal> {
         plain(call!(chain_arena_exchange_next(
             self,
@@ -66,6 +84,10 @@ impl ArenaMut<'_> {
     }
 
     /// Takes the link at `p` out and joins its neighbours.
+    ///
+    /// # Errors
+    ///
+    /// 1 to 11 as [`Arena::check`](crate::Arena::check), then 12 if `p` is stale.
     pub fn remove(&mut self, p: Ptr) -> Result<Removed, Refusal> {
         let answer = call!(chain_arena_remove(self, as_mut_ptr, p.slot, p.generation));
         let done = Done::of(answer.number, answer.broken)?;
@@ -73,6 +95,10 @@ impl ArenaMut<'_> {
     }
 
     /// Removes all links of `p`'s chain in the order of a walk from `p`. The report needs five words for each of them.
+    ///
+    /// # Errors
+    ///
+    /// 1 to 11 as [`Arena::check`](crate::Arena::check), then 12 if `p` is stale, then 14 if the report is too short.
     pub fn drain<'r>(&mut self, p: Ptr, report: &'r mut [u32]) -> Result<Drained<'r>, Refusal> {
         let answer = call!(chain_arena_drain(
             self,
@@ -85,27 +111,44 @@ impl ArenaMut<'_> {
         Done::of(answer.number, answer.broken)?;
         let items: &[[u32; 5]] = report.as_chunks().0;
         let report = items.get(..answer.items as usize).unwrap_or(items);
-        Ok(Drained { report, overflowed: (answer.overflowed != 0).then_some(answer.overflowed) })
+        let overflowed_at = (answer.overflowed as usize).checked_sub(1);
+        Ok(Drained { report, overflowed: overflowed_at.is_some(), overflowed_at })
     }
 
     /// Sets the current generation, from 2 on.
+    ///
+    /// # Errors
+    ///
+    /// 1 to 11 as [`Arena::check`](crate::Arena::check), then 15 if the generation is 0 or 1.
     pub fn set_generation(&mut self, generation: u32) -> Result<(), Refusal> {
         plain(call!(chain_arena_set_generation(self, as_mut_ptr, generation)))
     }
 
     /// Raises the current generation.
+    ///
+    /// # Errors
+    ///
+    /// 1 to 11 as [`Arena::check`](crate::Arena::check).
     pub fn inc_generation(&mut self) -> Result<Done, Refusal> {
         let answer = call!(chain_arena_inc_generation(self, as_mut_ptr));
         Done::of(answer.number, answer.broken)
     }
 
     /// Pops the free slots above the highest link and links the others in rising order from the root on.
+    ///
+    /// # Errors
+    ///
+    /// 1 to 11 as [`Arena::check`](crate::Arena::check).
     pub fn canonicalize_freelist(&mut self) -> Result<(), Refusal> {
         plain(call!(chain_arena_canonicalize_freelist(self, as_mut_ptr)))
     }
 
     /// Applies the commands of a run under one check, and answers each command with what became of it. After a command that
     /// is refused the next one is applied all the same. The run keeps its commands.
+    ///
+    /// # Errors
+    ///
+    /// 1 to 11 as [`Arena::check`](crate::Arena::check). What is refused of a command is in its answer: 12 or 13.
     pub fn run<'r>(
         &mut self,
         run: &'r mut Run<'_>,
@@ -118,6 +161,12 @@ impl ArenaMut<'_> {
 
     /// Applies commands that are words already: five for each, as [`Command::words`](crate::Command::words) makes them. Each
     /// gets one answer word, which [`Done::answer`] reads.
+    ///
+    /// # Errors
+    ///
+    /// 1 to 11 as [`Arena::check`](crate::Arena::check), then 16 if the number of words is not divisible by five, then 14 if there
+    /// are fewer answer words than commands. What is refused of a command is in its answer word: 12, 13, or 16 for an unknown
+    /// code.
     pub fn run_words(&mut self, commands: &[u32], answers: &mut [u32]) -> Result<(), Refusal> {
         plain(call!(chain_arena_run(
             self,
@@ -149,8 +198,10 @@ pub struct Removed {
 pub struct Drained<'r> {
     /// Five words for each link, in the walk's order: slot, generation, prev, next, payload
     pub report: &'r [[u32; 5]],
-    /// Which of the links, counted from 1, made the current generation overflow
-    pub overflowed: Option<u32>,
+    /// Whether the current generation overflowed
+    pub overflowed: bool,
+    /// At which of the links it did, by its place in the report
+    pub overflowed_at: Option<usize>,
 }
 
 /// A link of a chain that was drained.
@@ -164,6 +215,7 @@ pub struct DrainedLink {
 
 impl<'r> Drained<'r> {
     /// The links, in the walk's order.
+    #[must_use = "iterators are lazy and do nothing unless consumed"]
     pub fn links(&self) -> impl ExactSizeIterator<Item = DrainedLink> + use<'r> {
         self.report.iter().map(|&[slot, generation, prev, next, payload]| DrainedLink {
             ptr: Ptr { slot: slot as Slot, generation },

@@ -19,17 +19,20 @@
 //!     header: &Header { stack_length: 3, link_count: 3, root: 0, generation: 5 }.words(),
 //! };
 //! let p = Ptr { slot: 3, generation: 5 };
-//! # #[cfg(feature = "level-one")]
-//! assert_eq!(arena.get_link(p)?.payload, 30);
-//! # #[cfg(feature = "level-one")]
-//! assert!(arena.chain(p)?.map(|p| p.slot).eq([3, 1]));
+//! # #[cfg(feature = "level-one")] {
+//! assert_eq!(arena.get_link(p)?.payload, 30); // checks the arena, as every call does
+//! let checked = arena.checked()?; // checks it once, for any number of reads
+//! assert_eq!(checked.link(p)?.payload, 30);
+//! assert!(checked.chain(p)?.map(|(p, link)| (p.slot, link.payload)).eq([(3, 30), (1, 10)]));
+//! # }
 //! # Ok::<(), chain_arena::Refusal>(())
 //! ```
 //!
 //! # Levels
 //!
 //! The features `level-one`, `level-two` and `level-three`, all on by default, each stand alone. A feature builds its
-//! level's archive with the Rattle toolchain and links it. The calls of a level whose feature is off are not there.
+//! level's archive with the Rattle toolchain and links it. The calls of a level whose feature is off are not there. The
+//! feature `alloc` adds `OwnedArena`, whose columns are vectors.
 //!
 //! # Buffers do not overlap
 //!
@@ -51,6 +54,9 @@
 //! ```
 #![no_std]
 #![warn(missing_docs)]
+
+#[cfg(feature = "alloc")]
+extern crate alloc;
 
 /// Makes an exported call on an arena's lent slices, each of which crosses as a pointer and an element count.
 #[cfg(any(feature = "level-one", feature = "level-two", feature = "level-three"))]
@@ -77,6 +83,8 @@ macro_rules! call {
 }
 
 mod arena;
+#[cfg(feature = "level-one")]
+mod checked;
 #[expect(missing_docs, reason = "the words of a result are named as the calls name them")]
 pub mod ffi;
 #[cfg(feature = "level-one")]
@@ -85,9 +93,9 @@ mod level_one;
 mod level_three;
 #[cfg(feature = "level-two")]
 mod level_two;
-/// The levels that are sold, and the names that each exports.
-pub mod levels;
 mod link;
+#[cfg(feature = "alloc")]
+mod owned;
 mod refusal;
 #[cfg(feature = "level-two")]
 mod run;
@@ -95,18 +103,22 @@ mod run;
 mod walk;
 
 pub use arena::{Arena, ArenaMut, Header};
+#[cfg(feature = "level-one")]
+pub use checked::{Chain, Chains, Checked, Links};
 #[cfg(feature = "level-three")]
-pub use level_three::{CompressedCanonical, CompressedWith, Moved};
+pub use level_three::{CompressedCanonical, CompressedWith, Moved, NewGeneration};
 #[cfg(feature = "level-two")]
 pub use level_two::{Drained, DrainedLink, Removed};
 pub use link::{Link, LinkNoGen, Ptr, Slot};
-pub use refusal::{Done, Refusal};
+#[cfg(feature = "alloc")]
+pub use owned::OwnedArena;
+pub use refusal::{Done, Refusal, RefusalKind};
 #[cfg(feature = "level-two")]
 pub use run::{Answer, Command, Full, Run};
 #[cfg(feature = "level-one")]
-pub use walk::{Chain, Steps, Walk};
+pub use walk::{Steps, Walk};
 
 /// The README's examples, which are tested too.
 #[cfg(all(doctest, feature = "level-one", feature = "level-two", feature = "level-three"))]
-#[doc = include_str!("../../README.md")]
+#[doc = include_str!("../README.md")]
 struct Readme;

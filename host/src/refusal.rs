@@ -1,4 +1,4 @@
-//! What a call answers first: that it was done, or why it was refused, as a number and in words (REFERENCE, Numbers).
+//! What a call answers first: that it was done, or why it was refused, by number, by name and in words (REFERENCE, Numbers).
 
 use core::error::Error;
 use core::fmt;
@@ -14,18 +14,94 @@ pub struct Done {
 }
 
 impl Done {
+    /// The number of a call that was done and made the current generation overflow.
+    pub(crate) const OVERFLOWED: u32 = 100;
+
     /// What the first two words of a call's result stand for.
-    pub fn of(number: u32, broken: u32) -> Result<Self, Refusal> {
+    ///
+    /// # Errors
+    ///
+    /// The refusal, where the number is neither 0 nor 100.
+    pub const fn of(number: u32, broken: u32) -> Result<Self, Refusal> {
         match number {
             0 => Ok(Self { overflowed: false }),
-            100 => Ok(Self { overflowed: true }),
+            Self::OVERFLOWED => Ok(Self { overflowed: true }),
             _ => Err(Refusal { number, broken }),
         }
     }
 
     /// What the answer word of a run's command stands for.
-    pub fn answer(word: u32) -> Result<Self, Refusal> {
+    ///
+    /// # Errors
+    ///
+    /// The refusal, where the word is neither 0 nor 100.
+    pub const fn answer(word: u32) -> Result<Self, Refusal> {
         Self::of(word, 0)
+    }
+}
+
+/// Makes [`RefusalKind`] from a table of number, name and words.
+macro_rules! kinds {
+    ($($number:literal $name:ident $words:literal)*) => {
+        /// Why a call refuses, by name. The numbers are those of the calls; `kind as u32` gives them too.
+        ///
+        /// A later version may have more of them.
+        #[derive(Clone, Copy, Debug, PartialEq, Eq, PartialOrd, Ord, Hash)]
+        #[repr(u32)]
+        #[non_exhaustive]
+        pub enum RefusalKind {
+            $(#[doc = concat!($words, ".")] $name = $number,)*
+            /// No kind of this number is known to this version.
+            Unknown = u32::MAX,
+        }
+
+        impl RefusalKind {
+            /// Every kind that has a number, in the order of the numbers.
+            pub const ALL: &[Self] = &[$(Self::$name),*];
+
+            /// The kind of a number, [`Unknown`](Self::Unknown) if there is none.
+            #[must_use]
+            pub const fn of(number: u32) -> Self {
+                match number {
+                    $($number => Self::$name,)*
+                    _ => Self::Unknown,
+                }
+            }
+
+            /// What is wrong, in words.
+            #[must_use]
+            pub const fn words(self) -> &'static str {
+                match self {
+                    $(Self::$name => $words,)*
+                    Self::Unknown => "no refusal of this number is known here",
+                }
+            }
+        }
+    };
+}
+
+kinds! {
+    1 Shape "two columns differ in length or are longer than 65,535, or the header has not four words"
+    2 CurrentGeneration "the current generation is 0 or 1"
+    3 OverCapacity "the stack length or the link count exceeds the capacity"
+    4 LinkCount "the link count differs from how many links the stack has"
+    5 Root "there is a root but no free slot, or a free slot but no root"
+    6 FreelistZero "the freelist names 0 where it must name a slot"
+    7 FreelistAboveStack "the freelist names a slot above the stack"
+    8 FreelistLink "the freelist names a link"
+    9 FreelistEndless "the freelist has no end, that is no slot that points at itself"
+    10 FreelistIncomplete "the freelist ends and has missed a free slot"
+    11 BrokenLink "a link names a neighbour that is above the stack or free, or does not name it in turn"
+    12 StalePointer "a pointer is stale: in its slot there is no link, or one of another generation"
+    13 Neighbor "a neighbour is in the way, or one is missing"
+    14 SliceLength "the slice to be filled is too short, or the where-from column has not the columns' length"
+    15 GenerationTooLow "generation 0 or 1 was to be set"
+    16 Command "the command words are no whole commands, or the code of a command is unknown"
+}
+
+impl fmt::Display for RefusalKind {
+    fn fmt(&self, f: &mut fmt::Formatter<'_>) -> fmt::Result {
+        f.write_str(self.words())
     }
 }
 
@@ -33,7 +109,7 @@ impl Done {
 ///
 /// ```
 /// # #[cfg(feature = "level-one")] {
-/// use chain_arena::Arena;
+/// use chain_arena::{Arena, RefusalKind};
 ///
 /// // The next of slot 1 is 2, but slot 2 has no prev.
 /// let broken = Arena {
@@ -44,51 +120,44 @@ impl Done {
 ///     header: &[2, 2, 0, 5],
 /// };
 /// let refusal = broken.check().unwrap_err();
-/// assert_eq!((refusal.number(), refusal.slot()), (11, Some(1)));
+/// assert_eq!((refusal.kind(), refusal.number(), refusal.slot()), (RefusalKind::BrokenLink, 11, Some(1)));
 /// assert_eq!(
 ///     refusal.to_string(),
 ///     "refused with 11 at slot 1: a link names a neighbour that is above the stack or free, or does not name it in turn",
 /// );
 /// # }
 /// ```
-#[derive(Clone, Copy, Debug, PartialEq, Eq)]
+///
+/// [`Debug`](fmt::Debug) says the same, so that a `main` that returns a refusal ends with a sentence.
+#[derive(Clone, Copy, PartialEq, Eq, Hash)]
 pub struct Refusal {
     number: u32,
     broken: u32,
 }
 
 impl Refusal {
+    /// A refusal with a number that names no slot.
+    #[cfg(feature = "level-one")]
+    pub(crate) const fn of(kind: RefusalKind) -> Self {
+        Self { number: kind as u32, broken: 0 }
+    }
+
+    /// Why, by name.
+    #[must_use]
+    pub const fn kind(self) -> RefusalKind {
+        RefusalKind::of(self.number)
+    }
+
     /// The number.
-    pub fn number(self) -> u32 {
+    #[must_use]
+    pub const fn number(self) -> u32 {
         self.number
     }
 
-    /// With 11, the slot of a link at which rule 11 fails.
+    /// With [`RefusalKind::BrokenLink`], the slot of a link at which rule 11 fails.
+    #[must_use]
     pub fn slot(self) -> Option<Slot> {
-        answered_slot(self.broken).filter(|_| self.number == 11)
-    }
-
-    /// What is wrong, in words.
-    pub fn words(self) -> &'static str {
-        match self.number {
-            1 => "two columns differ in length or are longer than 65,535, or the header has not four words",
-            2 => "the current generation is 0 or 1",
-            3 => "the stack length or the link count exceeds the capacity",
-            4 => "the link count differs from how many links the stack has",
-            5 => "there is a root but no free slot, or a free slot but no root",
-            6 => "the freelist names 0 where it must name a slot",
-            7 => "the freelist names a slot above the stack",
-            8 => "the freelist names a link",
-            9 => "the freelist has no end, that is no slot that points at itself",
-            10 => "the freelist ends and has missed a free slot",
-            11 => "a link names a neighbour that is above the stack or free, or does not name it in turn",
-            12 => "the pointer is stale: in its slot there is no link, or one of another generation",
-            13 => "a neighbour is in the way, or one is missing",
-            14 => "the slice to be filled is too short, or the where-from column has not the columns' length",
-            15 => "generation 0 or 1 was to be set",
-            16 => "the command words are no whole commands, or the code of a command is unknown",
-            _ => "no rule of this number is known here",
-        }
+        answered_slot(self.broken).filter(|_| self.kind() == RefusalKind::BrokenLink)
     }
 }
 
@@ -98,7 +167,13 @@ impl fmt::Display for Refusal {
         if let Some(slot) = self.slot() {
             write!(f, " at slot {slot}")?;
         }
-        write!(f, ": {}", self.words())
+        write!(f, ": {}", self.kind())
+    }
+}
+
+impl fmt::Debug for Refusal {
+    fn fmt(&self, f: &mut fmt::Formatter<'_>) -> fmt::Result {
+        fmt::Display::fmt(self, f)
     }
 }
 

@@ -25,6 +25,7 @@ impl Command {
     pub const WORDS: usize = 5;
 
     /// The words of the command: its code, then slot and generation of two pointers.
+    #[must_use]
     pub fn words(self) -> [u32; Self::WORDS] {
         const NONE: Ptr = Ptr { slot: 0, generation: 0 };
         let (code, p, q) = match self {
@@ -88,16 +89,19 @@ pub struct Run<'a> {
 
 impl<'a> Run<'a> {
     /// A run of no commands, with room for as many as both slices have places.
+    #[must_use]
     pub fn new(commands: &'a mut [[u32; Command::WORDS]], answers: &'a mut [u32]) -> Self {
         Self { commands, answers, len: 0 }
     }
 
     /// How many commands it has.
+    #[must_use]
     pub fn len(&self) -> usize {
         self.len
     }
 
     /// Whether it has no command.
+    #[must_use]
     pub fn is_empty(&self) -> bool {
         self.len == 0
     }
@@ -108,6 +112,10 @@ impl<'a> Run<'a> {
     }
 
     /// Adds a command.
+    ///
+    /// # Errors
+    ///
+    /// [`Full`] if there is no room for it.
     pub fn push(&mut self, command: Command) -> Result<&mut Self, Full> {
         let room = self.answers.len().min(self.commands.len());
         let words = self.commands[..room].get_mut(self.len).ok_or(Full)?;
@@ -117,26 +125,46 @@ impl<'a> Run<'a> {
     }
 
     /// Adds [`Command::Connect`].
+    ///
+    /// # Errors
+    ///
+    /// [`Full`] if there is no room for it.
     pub fn connect(&mut self, p_prev: Ptr, p_next: Ptr) -> Result<&mut Self, Full> {
         self.push(Command::Connect(p_prev, p_next))
     }
 
     /// Adds [`Command::BreakPrev`].
+    ///
+    /// # Errors
+    ///
+    /// [`Full`] if there is no room for it.
     pub fn break_prev(&mut self, p: Ptr) -> Result<&mut Self, Full> {
         self.push(Command::BreakPrev(p))
     }
 
     /// Adds [`Command::BreakNext`].
+    ///
+    /// # Errors
+    ///
+    /// [`Full`] if there is no room for it.
     pub fn break_next(&mut self, p: Ptr) -> Result<&mut Self, Full> {
         self.push(Command::BreakNext(p))
     }
 
     /// Adds [`Command::ExchangeNext`].
+    ///
+    /// # Errors
+    ///
+    /// [`Full`] if there is no room for it.
     pub fn exchange_next(&mut self, p0: Ptr, p1: Ptr) -> Result<&mut Self, Full> {
         self.push(Command::ExchangeNext(p0, p1))
     }
 
     /// Adds [`Command::Remove`].
+    ///
+    /// # Errors
+    ///
+    /// [`Full`] if there is no room for it.
     pub fn remove(&mut self, p: Ptr) -> Result<&mut Self, Full> {
         self.push(Command::Remove(p))
     }
@@ -164,12 +192,19 @@ impl Answer {
 }
 
 /// There is no room for another command.
-#[derive(Clone, Copy, Debug, PartialEq, Eq)]
+#[derive(Clone, Copy, PartialEq, Eq)]
 pub struct Full;
 
 impl fmt::Display for Full {
     fn fmt(&self, f: &mut fmt::Formatter<'_>) -> fmt::Result {
         f.write_str("there is no room for another command of the run")
+    }
+}
+
+/// As in words, so that a `main` that returns it ends with a sentence.
+impl fmt::Debug for Full {
+    fn fmt(&self, f: &mut fmt::Formatter<'_>) -> fmt::Result {
+        fmt::Display::fmt(self, f)
     }
 }
 

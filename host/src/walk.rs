@@ -1,8 +1,8 @@
-//! The walk along a chain: a state that is stepped, and iterators over the links (REFERENCE, Walk).
+//! The walk along a chain: a state that is stepped, and an iterator over its links (REFERENCE, Walk).
 
 use core::iter::FusedIterator;
 
-use crate::{Arena, Done, Ptr, Refusal, Slot};
+use crate::{Arena, Done, Ptr, Refusal};
 
 /// The state of a walk. Any words are a state, and it may be kept while the arena changes.
 ///
@@ -36,6 +36,13 @@ pub struct Walk {
 
 impl Walk {
     /// The link at the position, or none, and the state goes on. A refused step leaves the state as it was.
+    ///
+    /// Each step checks the whole arena. For an arena that does not change meanwhile,
+    /// [`Checked::chain`](crate::Checked::chain) gives the same links after one check.
+    ///
+    /// # Errors
+    ///
+    /// 1 to 11 as [`Arena::check`]. Any words are a state, so that nothing else is refused.
     pub fn step(&mut self, arena: &Arena<'_>) -> Result<Option<Ptr>, Refusal> {
         let answer =
             call!(chain_arena_walk_step(arena, as_ptr, self.start, self.position, self.direction, self.left));
@@ -50,20 +57,22 @@ impl Walk {
     }
 }
 
-/// The links of a chain, one proved step for each.
+/// The links of a chain, one proved step for each: [`Arena::walk`], [`Arena::walk_from`].
 #[derive(Clone, Debug)]
+#[must_use = "iterators are lazy and do nothing unless consumed"]
 pub struct Steps<'a> {
     arena: Arena<'a>,
     walk: Walk,
 }
 
 impl<'a> Steps<'a> {
-    /// Steps on an arena from a state on.
-    pub fn new(arena: Arena<'a>, walk: Walk) -> Self {
+    /// Steps from a state on, on an arena that has passed the check.
+    pub(crate) fn new(arena: Arena<'a>, walk: Walk) -> Self {
         Self { arena, walk }
     }
 
     /// The state that the next step begins with.
+    #[must_use]
     pub fn state(&self) -> Walk {
         self.walk
     }
@@ -72,8 +81,7 @@ impl<'a> Steps<'a> {
 impl Iterator for Steps<'_> {
     type Item = Ptr;
 
-    /// The next link. The arena is borrowed, so it passes the check at every step if it did at the first; a step that is
-    /// refused ends the walk.
+    /// The next link. The arena has passed the check and is borrowed, so that no step is refused.
     fn next(&mut self) -> Option<Ptr> {
         self.walk.step(&self.arena).ok().flatten()
     }
@@ -81,55 +89,3 @@ impl Iterator for Steps<'_> {
 
 // A walk that has answered none answers none ever after.
 impl FusedIterator for Steps<'_> {}
-
-/// The links of a chain in the walk's order, of an arena that was checked once and is borrowed since.
-#[derive(Clone, Debug)]
-pub struct Chain<'a> {
-    arena: Arena<'a>,
-    start: Slot,
-    position: Slot,
-    along_next: bool,
-}
-
-impl<'a> Chain<'a> {
-    /// The chain of a link of an arena that has passed the check.
-    pub(crate) fn new(arena: Arena<'a>, start: Slot) -> Self {
-        Self { arena, start, position: start, along_next: true }
-    }
-
-    /// The slot after the position: at the end of an open chain the start's prev, at that of a closed chain none.
-    fn onward(&mut self) -> Slot {
-        if !self.along_next {
-            return word(self.arena.prev, self.position);
-        }
-        match word(self.arena.next, self.position) {
-            0 => {
-                self.along_next = false;
-                word(self.arena.prev, self.start)
-            }
-            next if next == self.start => 0,
-            next => next,
-        }
-    }
-}
-
-impl Iterator for Chain<'_> {
-    type Item = Ptr;
-
-    fn next(&mut self) -> Option<Ptr> {
-        let slot = self.position;
-        if slot == 0 {
-            return None;
-        }
-        self.position = self.onward();
-        Some(Ptr { slot, generation: word(self.arena.generation, slot) })
-    }
-}
-
-// The position stays 0.
-impl FusedIterator for Chain<'_> {}
-
-/// The word of a column at a slot, 0 where it has none.
-fn word<T: Copy + Default>(column: &[T], slot: Slot) -> T {
-    usize::from(slot).checked_sub(1).and_then(|place| column.get(place)).copied().unwrap_or_default()
-}

@@ -6,7 +6,10 @@ use std::fs;
 use std::path::{Path, PathBuf};
 use std::process::Command;
 
-use chain_arena::levels::{LEVELS, Level};
+#[path = "../levels.rs"]
+mod levels;
+
+use levels::{LEVELS, Level};
 
 /// What a compiler may call to copy, fill and compare memory.
 const COPYING: [&str; 5] = ["bcmp", "memcmp", "memcpy", "memmove", "memset"];

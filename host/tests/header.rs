@@ -3,6 +3,9 @@
 
 #![cfg(any(feature = "level-one", feature = "level-two", feature = "level-three"))]
 
+#[path = "../levels.rs"]
+mod levels;
+
 use std::path::{Path, PathBuf};
 use std::process::{Command, Output};
 use std::sync::LazyLock;
@@ -76,7 +79,7 @@ fn a_c_program_makes_every_call() {
     let linked = LEVELS.iter().filter(|(linked, ..)| *linked);
     let expected: String = linked.map(|(_, _, printed)| *printed).collect();
     assert_eq!(calls().into_iter().map(|(_, lines)| lines).collect::<String>(), expected);
-    let linked = chain_arena::levels::LEVELS.iter().zip(&LEVELS).filter(|(_, (linked, ..))| *linked);
+    let linked = levels::LEVELS.iter().zip(&LEVELS).filter(|(_, (linked, ..))| *linked);
     let exports: Vec<&str> = linked.flat_map(|(level, _)| level.exports).copied().collect();
     assert_eq!(calls().iter().map(|(name, _)| format!("chain_arena_{name}")).collect::<Vec<_>>(), exports);
 }

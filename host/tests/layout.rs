@@ -9,7 +9,10 @@ use std::collections::BTreeSet;
 use std::fs;
 use std::path::{Path, PathBuf};
 
-use chain_arena::levels::{LEVELS, Level};
+#[path = "../levels.rs"]
+mod levels;
+
+use levels::{LEVELS, Level};
 
 /// A parameter or a field: its name, and its type as Rust has it.
 type Place = (String, String);

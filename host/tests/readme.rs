@@ -4,7 +4,10 @@ use std::collections::BTreeSet;
 use std::fs;
 use std::path::{Path, PathBuf};
 
-use chain_arena::levels::LEVELS;
+#[path = "../levels.rs"]
+mod levels;
+
+use levels::LEVELS;
 
 /// Every document.
 fn documents() -> Vec<PathBuf> {

@@ -1,41 +1,7 @@
 //! The safe wrapper: answers, refusals in words, the walk, edits and compressions. It looks at arenas through Level One.
 #![cfg(feature = "level-one")]
 
-use chain_arena::{Arena, ArenaMut, Done, Link, LinkNoGen, Ptr, Refusal, Slot, Walk};
-
-/// An arena of owned columns.
-#[derive(Clone, Debug, PartialEq, Eq)]
-struct Columns {
-    prev: Vec<u16>,
-    next: Vec<u16>,
-    generation: Vec<u32>,
-    payload: Vec<u32>,
-    header: Vec<u32>,
-}
-
-impl Columns {
-    /// The columns as they are lent to a call.
-    fn lent(&self) -> Arena<'_> {
-        Arena {
-            prev: &self.prev,
-            next: &self.next,
-            generation: &self.generation,
-            payload: &self.payload,
-            header: &self.header,
-        }
-    }
-
-    /// The columns as they are lent to a call that writes.
-    fn lent_mut(&mut self) -> ArenaMut<'_> {
-        ArenaMut {
-            prev: &mut self.prev,
-            next: &mut self.next,
-            generation: &mut self.generation,
-            payload: &mut self.payload,
-            header: &mut self.header,
-        }
-    }
-}
+use chain_arena::{Arena, Done, Link, LinkNoGen, OwnedArena, Ptr, Refusal, Slot, Walk};
 
 /// The pointer to a slot at generation 5.
 fn p(slot: u16) -> Ptr {
@@ -46,8 +12,8 @@ fn p(slot: u16) -> Ptr {
 const STALE: Ptr = Ptr { slot: 1, generation: 4 };
 
 /// 1 -> 5, the closed 2 -> 4 -> (2), and the free slot 3.
-fn sample() -> Columns {
-    Columns {
+fn sample() -> OwnedArena {
+    OwnedArena {
         prev: vec![0, 4, 0, 2, 1],
         next: vec![5, 4, 3, 2, 0],
         generation: vec![5, 5, 0, 5, 5],
@@ -57,10 +23,10 @@ fn sample() -> Columns {
 }
 
 /// The refusal of a sample with something changed.
-fn refusal(change: impl FnOnce(&mut Columns)) -> Refusal {
+fn refusal(change: impl FnOnce(&mut OwnedArena)) -> Refusal {
     let mut columns = sample();
     change(&mut columns);
-    columns.lent().check().unwrap_err()
+    columns.as_arena().check().unwrap_err()
 }
 
 /// The slots of a walk from a slot, whatever its generation is.
@@ -72,11 +38,11 @@ fn walked(arena: Arena<'_>, slot: Slot) -> Vec<Slot> {
 #[test]
 fn a_whole_arena_passes() {
     let mut columns = sample();
-    assert_eq!(columns.lent().check(), Ok(()));
-    assert_eq!(columns.lent_mut().as_arena().check(), Ok(()));
+    assert_eq!(columns.as_arena().check(), Ok(()));
+    assert_eq!(columns.as_arena_mut().as_arena().check(), Ok(()));
     let empty =
-        Columns { prev: vec![], next: vec![], generation: vec![], payload: vec![], header: vec![0, 0, 0, 2] };
-    assert_eq!(empty.lent().check(), Ok(()));
+        OwnedArena { prev: vec![], next: vec![], generation: vec![], payload: vec![], header: vec![0, 0, 0, 2] };
+    assert_eq!(empty.as_arena().check(), Ok(()));
 }
 
 #[test]
@@ -90,7 +56,7 @@ fn each_rule_of_the_check_is_named() {
     assert_eq!(refusal(|a| a.next[2] = 0).number(), 6);
     assert_eq!(refusal(|a| a.header[2] = 6).number(), 7);
     assert_eq!(refusal(|a| a.header[2] = 1).number(), 8);
-    let two_free = |a: &mut Columns| {
+    let two_free = |a: &mut OwnedArena| {
         a.generation[4] = 0;
         a.next[0] = 0;
         a.header[1] = 3;
@@ -124,7 +90,7 @@ fn every_number_has_its_words() {
 #[test]
 fn links_and_neighbours_are_read() {
     let columns = sample();
-    let arena = columns.lent();
+    let arena = columns.as_arena();
     assert_eq!(arena.get_link(p(1)), Ok(Link { prev: None, next: Some(p(5)), payload: 10 }));
     assert_eq!(arena.get_link(p(2)), Ok(Link { prev: Some(p(4)), next: Some(p(4)), payload: 20 }));
     assert_eq!(arena.get_link_no_gen(p(5)), Ok(LinkNoGen { prev: Some(1), next: None, payload: 50 }));
@@ -142,7 +108,7 @@ fn links_and_neighbours_are_read() {
 #[test]
 fn a_walk_gives_the_whole_chain_and_then_none() {
     let columns = sample();
-    let arena = columns.lent();
+    let arena = columns.as_arena();
     for (from, slots) in [(1, [1, 5]), (5, [5, 1]), (2, [2, 4]), (4, [4, 2])] {
         let mut steps = arena.walk(p(from)).unwrap();
         assert!(steps.by_ref().eq(slots.map(p)));
@@ -157,17 +123,17 @@ fn a_walk_gives_the_whole_chain_and_then_none() {
 #[test]
 fn the_state_of_a_walk_can_be_kept_while_the_arena_changes() {
     let mut columns = sample();
-    let mut walk = columns.lent().walk_start(p(1)).unwrap();
+    let mut walk = columns.as_arena().walk_start(p(1)).unwrap();
     assert_eq!(walk, Walk { start: 1, position: 1, direction: 0, left: 4 });
-    assert_eq!(walk.step(&columns.lent()), Ok(Some(p(1))));
+    assert_eq!(walk.step(&columns.as_arena()), Ok(Some(p(1))));
     assert_eq!(walk, Walk { start: 1, position: 5, direction: 0, left: 3 });
     columns.next[0] = 0;
-    assert_eq!(walk.step(&columns.lent()).unwrap_err().number(), 11);
+    assert_eq!(walk.step(&columns.as_arena()).unwrap_err().number(), 11);
     assert_eq!(walk, Walk { start: 1, position: 5, direction: 0, left: 3 });
     columns.prev[4] = 0;
-    assert_eq!(walk.step(&columns.lent()), Ok(Some(p(5))));
+    assert_eq!(walk.step(&columns.as_arena()), Ok(Some(p(5))));
     assert_eq!(walk, Walk { start: 1, position: 0, direction: 1, left: 2 });
-    assert_eq!(walk.step(&columns.lent()), Ok(None));
+    assert_eq!(walk.step(&columns.as_arena()), Ok(None));
 }
 
 #[cfg(feature = "level-two")]
@@ -179,7 +145,7 @@ mod level_two {
     #[test]
     fn edits() {
         let mut columns = sample();
-        let mut arena = columns.lent_mut();
+        let mut arena = columns.as_arena_mut();
         assert_eq!(arena.connect(p(1), p(2)).unwrap_err().number(), 13);
         assert_eq!(arena.break_next(p(2)), Ok(()));
         assert_eq!(arena.connect(p(5), p(4)), Ok(()));
@@ -201,7 +167,7 @@ mod level_two {
         let mut columns = sample();
         columns.header[3] = u32::MAX;
         let mut report = [9; 12];
-        let mut arena = columns.lent_mut();
+        let mut arena = columns.as_arena_mut();
         assert_eq!(arena.drain(p(5), &mut report[..9]).unwrap_err().number(), 14);
         let drained = arena.drain(p(5), &mut report).unwrap();
         let link = |prev, next, payload| LinkNoGen { prev, next, payload };
@@ -218,7 +184,7 @@ mod level_two {
     #[test]
     fn generations_and_the_freelist() {
         let mut columns = sample();
-        let mut arena = columns.lent_mut();
+        let mut arena = columns.as_arena_mut();
         assert_eq!(arena.set_generation(1).unwrap_err().number(), 15);
         assert_eq!(arena.set_generation(u32::MAX - 1), Ok(()));
         assert_eq!(arena.inc_generation(), Ok(Done { overflowed: false }));
@@ -247,14 +213,14 @@ mod level_two {
         run.break_next(p(1)).unwrap().connect(p(5), p(1)).unwrap().connect(p(5), p(1)).unwrap();
         run.break_prev(STALE).unwrap().exchange_next(p(5), p(2)).unwrap().remove(p(4)).unwrap();
         assert_eq!((run.push(commands[0]).unwrap_err(), run.len()), (Full, 6));
-        let found: Vec<Answer> = columns.lent_mut().run(&mut run).unwrap().collect();
+        let found: Vec<Answer> = columns.as_arena_mut().run(&mut run).unwrap().collect();
         let numbers = [0, 0, 13, 12, 0, 0];
         let expected = commands
             .iter()
             .zip(numbers)
             .map(|(&command, number)| Answer { command, result: Done::answer(number) });
         assert!(found.into_iter().eq(expected));
-        assert_eq!(walked(columns.lent(), 5), [5, 2, 1]);
+        assert_eq!(walked(columns.as_arena(), 5), [5, 2, 1]);
         assert_eq!(columns.header, [5, 3, 4, 6]);
     }
 
@@ -264,20 +230,20 @@ mod level_two {
         let (mut words, mut answers) = ([[9; Command::WORDS]; 1], [9; 2]);
         let mut run = Run::new(&mut words, &mut answers);
         assert!(run.is_empty());
-        assert_eq!(columns.lent_mut().run(&mut run).unwrap().len(), 0);
+        assert_eq!(columns.as_arena_mut().run(&mut run).unwrap().len(), 0);
         run.remove(p(5)).unwrap();
         assert_eq!(run.remove(p(1)).unwrap_err(), Full);
         run.clear();
         run.remove(p(1)).unwrap();
-        assert_eq!(columns.lent_mut().run(&mut run).unwrap().len(), 1);
-        assert_eq!(columns.lent().get_link(p(1)).unwrap_err().number(), 12);
-        assert_eq!(walked(columns.lent(), 5), [5]);
+        assert_eq!(columns.as_arena_mut().run(&mut run).unwrap().len(), 1);
+        assert_eq!(columns.as_arena().get_link(p(1)).unwrap_err().number(), 12);
+        assert_eq!(walked(columns.as_arena(), 5), [5]);
     }
 
     #[test]
     fn a_run_of_words() {
         let mut columns = sample();
-        let mut arena = columns.lent_mut();
+        let mut arena = columns.as_arena_mut();
         let mut answers = [9; 3];
         let commands = [Command::Remove(p(4)).words(), [77; 5]];
         assert_eq!(arena.run_words(commands.as_flattened(), &mut answers), Ok(()));
@@ -298,7 +264,7 @@ mod level_three {
     fn links_move_down_in_order() {
         let mut columns = sample();
         let mut report = [9; 19];
-        let mut arena = columns.lent_mut();
+        let mut arena = columns.as_arena_mut();
         assert_eq!(arena.compress_with(false, &mut report[..15]).unwrap_err().number(), 14);
         let compressed = arena.compress_with(false, &mut report).unwrap();
         let to = |slot| Ptr { slot, generation: 6 };
@@ -306,7 +272,7 @@ mod level_three {
         assert!(compressed.links().eq(moved));
         assert!(!compressed.overflowed);
         assert_eq!(report[16..], [9, 9, 9]);
-        assert_eq!((walked(columns.lent(), 1), walked(columns.lent(), 2)), (vec![1, 4], vec![2, 3]));
+        assert_eq!((walked(columns.as_arena(), 1), walked(columns.as_arena(), 2)), (vec![1, 4], vec![2, 3]));
     }
 
     #[test]
@@ -314,32 +280,32 @@ mod level_three {
         let mut columns = sample();
         columns.header[3] = u32::MAX;
         let mut from = [9; 5];
-        let mut arena = columns.lent_mut();
+        let mut arena = columns.as_arena_mut();
         assert_eq!(arena.compress_canonical(false, &mut from[..4]).unwrap_err().number(), 14);
         let first = CompressedCanonical { where_from: &[1, 5, 4, 2], overflowed: true };
         assert_eq!(arena.compress_canonical(false, &mut from), Ok(first));
         let again = CompressedCanonical { where_from: &[1, 2, 3, 4], overflowed: false };
         assert_eq!(arena.compress_canonical(true, &mut from), Ok(again));
         assert_eq!(from, [1, 2, 3, 4, 0]);
-        assert_eq!((walked(columns.lent(), 1), walked(columns.lent(), 3)), (vec![1, 2], vec![3, 4]));
+        assert_eq!((walked(columns.as_arena(), 1), walked(columns.as_arena(), 3)), (vec![1, 2], vec![3, 4]));
         assert_eq!(columns.header, [4, 4, 0, 2]);
     }
 }
 
 /// Makes every call that is linked, with pointers, words and slices of any kind.
-fn make_every_call(columns: &mut Columns, noise: &mut dyn FnMut() -> u32) {
+fn make_every_call(columns: &mut OwnedArena, noise: &mut dyn FnMut() -> u32) {
     let mut pointer = || Ptr { slot: (noise() % 7) as u16, generation: 4 + noise() % 4 };
     let (p, q) = (pointer(), pointer());
     let mut walk =
         Walk { start: noise() % 7, position: noise() % 7, direction: noise() % 2, left: noise() % 7 };
-    let arena = columns.lent();
+    let arena = columns.as_arena();
     let _ = (arena.get_link(p), arena.get_link_no_gen(p), arena.are_neighbors(p, q), walk.step(&arena));
     let _ = (arena.walk(p).map(Iterator::count), arena.chain(p).map(Iterator::count));
     #[cfg(feature = "level-two")]
     {
         let mut slice: Vec<u32> = (0..noise() % 40).map(|_| noise() % 6).collect();
         let mut answers = vec![0; noise() as usize % 9];
-        let mut arena = columns.lent_mut();
+        let mut arena = columns.as_arena_mut();
         let _ = (arena.connect(p, q), arena.exchange_next(p, q), arena.break_prev(p), arena.break_next(q));
         let _ = (arena.set_generation(noise() % 4), arena.inc_generation());
         let _ = (arena.run_words(&slice, &mut answers), arena.remove(p), arena.canonicalize_freelist());
@@ -350,7 +316,7 @@ fn make_every_call(columns: &mut Columns, noise: &mut dyn FnMut() -> u32) {
         let mut report = vec![0; noise() as usize % 30];
         let mut from = vec![0; noise() as usize % 7];
         let reset = noise().is_multiple_of(2);
-        let mut arena = columns.lent_mut();
+        let mut arena = columns.as_arena_mut();
         let _ = arena.compress_with(reset, &mut report).map(|compressed| compressed.links().count());
         let _ = arena.compress_canonical(reset, &mut from);
     }
@@ -380,7 +346,7 @@ fn nothing_panics_on_any_words() {
             }
             columns.header.resize(4, word);
         }
-        passed += u32::from(columns.lent().check().is_ok());
+        passed += u32::from(columns.as_arena().check().is_ok());
         make_every_call(&mut columns, &mut noise);
     }
     assert!(passed > 50_000, "only {passed} arenas passed the check");

@@ -3,7 +3,9 @@
 
 use std::fmt;
 
-use crate::columns::Columns;
+use chain_arena::OwnedArena;
+
+use crate::by_slot::BySlot;
 
 /// How wide a line of text may be.
 const WIDTH: usize = 100;
@@ -52,7 +54,7 @@ pub struct Picture {
 
 impl Picture {
     /// The picture of any arena.
-    pub fn of(a: &Columns) -> Self {
+    pub fn of(a: &OwnedArena) -> Self {
         let mut drawn = vec![false; a.stack().count() + 1];
         let links: Vec<u32> = a.stack().filter(|&slot| a.is_link(slot)).collect();
         let mut rows = Vec::new();
@@ -87,7 +89,7 @@ impl Picture {
 }
 
 /// The freelist from the root on, up to where it ends or fails; none if there is no root.
-fn freelist(a: &Columns, drawn: &mut [bool]) -> Option<Row> {
+fn freelist(a: &OwnedArena, drawn: &mut [bool]) -> Option<Row> {
     let root = a.header().root;
     if root == 0 {
         return None;
@@ -105,12 +107,12 @@ fn freelist(a: &Columns, drawn: &mut [bool]) -> Option<Row> {
 }
 
 /// The next of a link, if that is a link that names it back.
-fn after(a: &Columns, slot: u32) -> Option<u32> {
+fn after(a: &OwnedArena, slot: u32) -> Option<u32> {
     Some(a.next(slot)).filter(|&next| a.is_link(next) && a.prev(next) == slot)
 }
 
 /// The prev of a link, if that is a link that names it back.
-fn before(a: &Columns, slot: u32) -> Option<u32> {
+fn before(a: &OwnedArena, slot: u32) -> Option<u32> {
     Some(a.prev(slot)).filter(|&prev| a.is_link(prev) && a.next(prev) == slot)
 }
 

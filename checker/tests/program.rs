@@ -1,5 +1,4 @@
 //! The checker, run as a tester runs it: what it says, what it draws and how it ends.
-#![cfg(feature = "level-one")]
 
 use std::fs;
 use std::path::{Path, PathBuf};

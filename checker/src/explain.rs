@@ -2,9 +2,9 @@
 //!
 //! Which rule fails is what the proved check says. This only looks for the words that make it fail.
 
-use chain_arena::{Header, Refusal};
+use chain_arena::{Header, OwnedArena, Refusal};
 
-use crate::columns::Columns;
+use crate::by_slot::BySlot;
 
 /// Why a rule fails, and the slot at which it does, if it is one slot's doing.
 #[derive(Debug, PartialEq, Eq)]
@@ -26,7 +26,7 @@ impl Why {
 }
 
 /// Why the check refused the arena with 1 to 11.
-pub fn explain(a: &Columns, refusal: Refusal) -> Why {
+pub fn explain(a: &OwnedArena, refusal: Refusal) -> Why {
     let header = a.header();
     match refusal.number() {
         1 => Why::whole(shape(a)),
@@ -47,7 +47,7 @@ pub fn explain(a: &Columns, refusal: Refusal) -> Why {
 }
 
 /// Rule 1: lengths.
-fn shape(a: &Columns) -> String {
+fn shape(a: &OwnedArena) -> String {
     let lengths = [a.prev.len(), a.next.len(), a.generation.len(), a.payload.len()];
     let [prev, next, generation, payload] = lengths;
     if lengths.iter().any(|&length| length != prev) {
@@ -62,7 +62,7 @@ fn shape(a: &Columns) -> String {
 }
 
 /// Rule 3: the header's counts against the capacity.
-fn over_capacity(a: &Columns) -> String {
+fn over_capacity(a: &OwnedArena) -> String {
     let (header, capacity) = (a.header(), a.capacity());
     let (name, count) = if header.link_count as usize > capacity {
         ("link count", header.link_count)
@@ -73,7 +73,7 @@ fn over_capacity(a: &Columns) -> String {
 }
 
 /// Rule 5: a root exactly if a slot is free.
-fn root(a: &Columns) -> Why {
+fn root(a: &OwnedArena) -> Why {
     let root = a.header().root;
     match a.stack().find(|&slot| a.is_free(slot)) {
         Some(free) => Why::at(free, format!("there is no freelist root, but slot {free} is free")),
@@ -85,7 +85,7 @@ fn root(a: &Columns) -> Why {
 }
 
 /// Rules 6 to 10: the freelist from its root on, up to where it fails.
-fn freelist(a: &Columns) -> Why {
+fn freelist(a: &OwnedArena) -> Why {
     let header = a.header();
     let mut visited = vec![false; a.stack().count() + 1];
     let mut count = 0;
@@ -118,7 +118,7 @@ fn freelist(a: &Columns) -> Why {
 }
 
 /// Rule 10: the freelist ends in a slot after so many visits, but a free slot is not among those.
-fn missed(a: &Columns, last: u32, count: usize, visited: &[bool]) -> Why {
+fn missed(a: &OwnedArena, last: u32, count: usize, visited: &[bool]) -> Why {
     let free = a.stack().filter(|&slot| a.is_free(slot));
     let all = free.clone().count();
     let missed = free.clone().find(|&slot| !visited[slot as usize]).unwrap_or(0);
@@ -131,7 +131,7 @@ fn missed(a: &Columns, last: u32, count: usize, visited: &[bool]) -> Why {
 }
 
 /// Rule 11: what is wrong with a link's prev, else with its next.
-fn interlink(a: &Columns, slot: u32) -> Why {
+fn interlink(a: &OwnedArena, slot: u32) -> Why {
     let wrong = side(a, slot, ("prev", a.prev(slot)), ("next", a.next(a.prev(slot))))
         .or_else(|| side(a, slot, ("next", a.next(slot)), ("prev", a.prev(a.next(slot)))));
     Why::at(slot, format!("slot {slot}: {}", wrong.unwrap_or_default()))
@@ -139,7 +139,7 @@ fn interlink(a: &Columns, slot: u32) -> Why {
 
 /// What is wrong with a link's neighbour on one side, which must name the link back on the other side.
 fn side(
-    a: &Columns,
+    a: &OwnedArena,
     slot: u32,
     (name, neighbour): (&str, u32),
     (back, named): (&str, u32),
@@ -180,11 +180,11 @@ mod tests {
     ];
 
     /// Calls `look` with every arena of two slots whose words are small.
-    fn every_small_arena(mut look: impl FnMut(&Columns)) {
+    fn every_small_arena(mut look: impl FnMut(&OwnedArena)) {
         let rows: Vec<[u32; 3]> = (0..32).map(|k| [k % 4, k / 4 % 4, k / 16 * 5]).collect();
         for (one, two) in rows.iter().flat_map(|one| rows.iter().map(move |two| (one, two))) {
             for k in 0..128 {
-                look(&Columns {
+                look(&OwnedArena {
                     prev: vec![one[0] as u16, two[0] as u16],
                     next: vec![one[1] as u16, two[1] as u16],
                     generation: vec![one[2], two[2]],
@@ -199,7 +199,7 @@ mod tests {
     fn every_small_arena_is_explained_by_the_rule_that_fails() {
         let mut seen = [0; 12];
         every_small_arena(|a| {
-            let Err(refusal) = a.lent().check() else { return seen[0] += 1 };
+            let Err(refusal) = a.as_arena().check() else { return seen[0] += 1 };
             let number = refusal.number() as usize;
             seen[number] += 1;
             let why = explain(a, refusal);

@@ -1,4 +1,4 @@
-// The levels that are sold. build.rs, the library and the tests all read this list.
+// The levels that are sold. build.rs and the tests read this list.
 
 /// A level: its archive, which is made from the crates of exports whose names begin with its own, and the names that it exports.
 pub struct Level {

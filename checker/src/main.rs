@@ -1,11 +1,12 @@
 //! The checker for testers: reads an arena from plain text and says what the proved calls make of it, as text and as a
 //! picture. `USAGE` says how it is called.
 
-mod columns;
+mod by_slot;
 #[cfg(feature = "level-three")]
 mod compress;
 mod explain;
 mod format;
+mod panel;
 mod picture;
 mod svg;
 
@@ -16,12 +17,12 @@ use std::io::{self, Write};
 use std::path::{Path, PathBuf};
 use std::process::ExitCode;
 
-use chain_arena::Refusal;
+use chain_arena::{OwnedArena, Refusal};
 
-use columns::Columns;
+use by_slot::BySlot;
 use explain::{Why, explain};
 use picture::{Kind, Picture};
-use svg::Panel;
+use panel::{Fault, Panel};
 
 const USAGE: &str = "\
 usage: checker [check FILE | compress FILE] [--svg OUT]
@@ -33,8 +34,8 @@ docs/FORMAT.md describes FILE. Exit status: 0 passes the check, 1 refused, 2 wro
 ";
 
 /// What `cargo run` shows: case K11 (REFERENCE, Marked cases), and an arena with one wrong pointer.
-const WHOLE: &str = include_str!("../../../arenas/k11.txt");
-const BROKEN: &str = include_str!("../../../arenas/broken.txt");
+const WHOLE: &str = include_str!("../arenas/k11.txt");
+const BROKEN: &str = include_str!("../arenas/broken.txt");
 
 /// What is asked for.
 enum Request {
@@ -66,14 +67,14 @@ fn request(mut arguments: impl Iterator<Item = OsString>) -> Option<(Request, Op
 /// An arena with what the check says of it.
 struct Checked {
     name: String,
-    arena: Columns,
+    arena: OwnedArena,
     refused: Option<(Refusal, Why)>,
 }
 
 impl Checked {
     /// Checks an arena.
-    fn new(name: &str, arena: Columns) -> Self {
-        let refused = arena.lent().check().err().map(|refusal| (refusal, explain(&arena, refusal)));
+    fn new(name: &str, arena: OwnedArena) -> Self {
+        let refused = arena.as_arena().check().err().map(|refusal| (refusal, explain(&arena, refusal)));
         Self { name: name.to_string(), arena, refused }
     }
 
@@ -103,17 +104,16 @@ impl Checked {
 
     /// The arena to draw.
     fn panel(&self) -> Panel {
-        let (sentence, broken) = match &self.refused {
-            Some((refusal, why)) => {
-                (Some(format!("refused with {}: {}", refusal.number(), why.sentence)), why.slot)
-            }
-            None => (None, None),
-        };
+        let why = self.refused.as_ref().map(|(_, why)| why);
+        let fault = |why: &Why| why.slot.map(|slot| Fault { slot, sentence: why.sentence.clone() });
         Panel {
             title: self.name.clone(),
-            sentence,
+            sentence: self
+                .refused
+                .as_ref()
+                .map(|(refusal, why)| format!("refused with {}: {}", refusal.number(), why.sentence)),
             arena: self.arena.clone(),
-            broken,
+            faults: why.and_then(fault).into_iter().collect(),
             where_from: Vec::new(),
         }
     }
@@ -125,7 +125,7 @@ impl Checked {
 }
 
 /// What a whole arena holds, in numbers.
-fn counts(arena: &Columns, picture: &Picture) -> String {
+fn counts(arena: &OwnedArena, picture: &Picture) -> String {
     let header = arena.header();
     format!(
         "{} links on {} open and {} closed chains, {} free slots, room for {} slots",
@@ -157,7 +157,7 @@ fn compress(checked: &Checked) -> Result<Shown, String> {
         title: format!("{}, compressed", checked.name),
         sentence: None,
         arena: compressed.after,
-        broken: None,
+        faults: Vec::new(),
         where_from: compressed.where_from,
     };
     Ok(Shown { text, panels: vec![checked.panel(), after], passes: true })

@@ -1,8 +1,7 @@
 //! Draws arenas: chains as rows of boxes with arrows, free slots and the freelist in grey, the broken slot in red.
 
-use chain_arena::Slot;
-
-use crate::columns::Columns;
+use crate::by_slot::BySlot;
+use crate::panel::Panel;
 use crate::picture::{Kind, Picture, Row};
 
 /// How many boxes stand on a line; a longer row goes on below.
@@ -41,18 +40,6 @@ path.wrong { stroke: #d00 }
 
 /// The kinds of arrows with their colours. An arrow's class is also the name of its tip.
 const ARROWS: [(&str, &str); 3] = [("next", "#222"), ("freelist", "#999"), ("wrong", "#d00")];
-
-/// An arena to draw, with what is said of it.
-pub struct Panel {
-    pub title: String,
-    /// Why the check refuses it
-    pub sentence: Option<String>,
-    pub arena: Columns,
-    /// The slot at which a rule fails
-    pub broken: Option<u32>,
-    /// The old slot of each link by its new one, after a compression
-    pub where_from: Vec<Slot>,
-}
 
 /// Draws the panels below each other.
 pub fn draw(panels: &[Panel]) -> String {
@@ -150,7 +137,7 @@ impl Drawing {
     fn panel(&mut self, panel: &Panel) {
         let picture = Picture::of(&panel.arena);
         let all: Vec<Line<'_>> = picture.rows.iter().flat_map(lines).collect();
-        let drawn = around(&all, panel.broken);
+        let drawn = around(&all, panel.faults.first().map(|fault| fault.slot));
         self.text("title", &panel.title);
         if let Some(sentence) = &panel.sentence {
             self.text("wrong", sentence);
@@ -255,7 +242,7 @@ impl Drawing {
         let (y, centre) = (self.y, x + BOX_WIDTH / 2);
         let free = panel.arena.is_free(slot);
         let kind = if free { " free" } else { "" };
-        let broken = if panel.broken == Some(slot) { " broken" } else { "" };
+        let broken = if panel.is_broken(slot) { " broken" } else { "" };
         self.body += &format!(
             r#"<g class="slot{kind}{broken}"><rect x="{x}" y="{y}" width="{BOX_WIDTH}" height="{BOX_HEIGHT}" rx="4"/>"#
         );

@@ -2,28 +2,28 @@
 
 use std::fmt::{Display, Write};
 
-use chain_arena::{Header, Refusal, Slot};
+use chain_arena::{Header, NewGeneration, OwnedArena, Refusal, Slot};
 
-use crate::columns::Columns;
+use crate::by_slot::BySlot;
 use crate::picture::Picture;
 
 /// An arena after its compression, with the old slot of each link by its new one.
 pub struct Compressed {
-    pub after: Columns,
+    pub after: OwnedArena,
     pub where_from: Vec<Slot>,
 }
 
 impl Compressed {
     /// Compresses a copy of the arena, without reset.
-    pub fn of(before: &Columns) -> Result<Self, Refusal> {
+    pub fn of(before: &OwnedArena) -> Result<Self, Refusal> {
         let mut after = before.clone();
         let mut column = vec![0; before.capacity()];
-        let where_from = after.lent_mut().compress_canonical(false, &mut column)?.where_from.to_vec();
+        let where_from = after.as_arena_mut().compress_canonical(NewGeneration::Next, &mut column)?.where_from.to_vec();
         Ok(Self { after, where_from })
     }
 
     /// A table with a line for each slot that the stack had, then header and chains before and after.
-    pub fn table(&self, before: &Columns) -> String {
+    pub fn table(&self, before: &OwnedArena) -> String {
         let names = cells(["prev", "next", "generation", "payload"]);
         let mut text =
             format!("     |{:<39} |{:<39} |\nslot |{names} |{names} | where-from\n", "  before", "  after");
@@ -45,7 +45,7 @@ impl Compressed {
 }
 
 /// The words of a slot that are read: of a free slot only its next, above the stack none.
-fn words(a: &Columns, slot: u32) -> String {
+fn words(a: &OwnedArena, slot: u32) -> String {
     if a.is_link(slot) {
         cells([a.prev(slot), a.next(slot), a.generation(slot), a.payload(slot)])
     } else if a.is_free(slot) {

@@ -2,7 +2,7 @@
 
 use std::fmt;
 
-use crate::columns::Columns;
+use chain_arena::OwnedArena;
 
 /// Where the text is not what it should be, and what should stand there. Lines and columns count from 1.
 #[derive(Debug, PartialEq, Eq)]
@@ -19,10 +19,10 @@ impl fmt::Display for ParseError {
 }
 
 /// The arena of a file's bytes.
-pub fn parse(bytes: &[u8]) -> Result<Columns, ParseError> {
+pub fn parse(bytes: &[u8]) -> Result<OwnedArena, ParseError> {
     let text = str::from_utf8(bytes).map_err(|error| not_text(&bytes[..error.valid_up_to()]))?;
     let mut lines = text.lines().enumerate().map(|(k, text)| Line::new(k + 1, text));
-    let mut arena = Columns::default();
+    let mut arena = OwnedArena::default();
     match lines.find(|line| !line.is_empty()) {
         Some(line) => arena.header = header(line)?,
         None => return Err(no_header(text)),
@@ -44,7 +44,7 @@ fn header(mut line: Line<'_>) -> Result<Vec<u32>, ParseError> {
 }
 
 /// Adds the words of a line `SLOT PREV NEXT GENERATION PAYLOAD`.
-fn row(mut line: Line<'_>, slot: usize, arena: &mut Columns) -> Result<(), ParseError> {
+fn row(mut line: Line<'_>, slot: usize, arena: &mut OwnedArena) -> Result<(), ParseError> {
     line.word(&format!("slot {slot}"), |word| decimal(word).filter(|&number| number == slot as u64))?;
     line.entry("prev", slot, u16::MAX, &mut arena.prev)?;
     line.entry("next", slot, u16::MAX, &mut arena.next)?;

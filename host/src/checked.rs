@@ -1,0 +1,394 @@
+//! Reading an arena that was checked once: plain Rust on columns that cannot change meanwhile (REFERENCE, Reading and Walk).
+
+use core::iter::FusedIterator;
+
+use crate::{Arena, ArenaMut, Header, Link, LinkNoGen, Ptr, Refusal, RefusalKind, Slot};
+
+/// An arena that has passed the check, borrowed so that it cannot change.
+///
+/// Every call of [`Arena`] checks the whole arena first. Here the one proved check of [`Arena::checked`] serves all reads:
+/// each takes constant time, and an iterator takes time in proportion to the links that it visits. What follows the check
+/// is safe Rust, not proved but tested to answer what the proved calls answer.
+///
+/// ```
+/// use chain_arena::{Arena, Header, Ptr};
+///
+/// // 3 -> 1, and 2 closed alone.
+/// let arena = Arena {
+///     prev: &[3, 2, 0],
+///     next: &[0, 2, 1],
+///     generation: &[5, 5, 5],
+///     payload: &[10, 20, 30],
+///     header: &Header { stack_length: 3, link_count: 3, root: 0, generation: 5 }.words(),
+/// };
+/// let checked = arena.checked()?;
+/// for (p, link) in checked.links() {
+///     assert_eq!(checked.link(p)?, link);
+/// }
+/// let payloads = |chain: chain_arena::Chain<'_>| chain.map(|(_, link)| link.payload).collect::<Vec<_>>();
+/// assert!(checked.chains().map(payloads).eq([vec![30, 10], vec![20]]));
+/// # Ok::<(), chain_arena::Refusal>(())
+/// ```
+///
+/// The columns cannot be written to as long as it is in use:
+///
+/// ```compile_fail,E0502
+/// # use chain_arena::{ArenaMut, Ptr};
+/// # let (prev, next) = (&mut [0; 3], &mut [0; 3]);
+/// # let (generation, payload, header) = (&mut [5; 3], &mut [0; 3], &mut [3, 3, 0, 5]);
+/// let mut arena = ArenaMut { prev, next, generation, payload, header };
+/// let checked = arena.checked()?;
+/// arena.prev[0] = 7;
+/// assert_eq!(checked.len(), 3);
+/// # Ok::<(), chain_arena::Refusal>(())
+/// ```
+#[derive(Clone, Copy, Debug)]
+#[must_use]
+pub struct Checked<'a> {
+    arena: Arena<'a>,
+    header: Header,
+}
+
+impl<'a> Arena<'a> {
+    /// Checks the arena once, for any number of reads.
+    ///
+    /// # Errors
+    ///
+    /// 1 to 11 as [`check`](Self::check).
+    pub fn checked(&self) -> Result<Checked<'a>, Refusal> {
+        self.check()?;
+        let header = Header::of(self.header).ok_or(Refusal::of(RefusalKind::Shape))?;
+        Ok(Checked { arena: *self, header })
+    }
+}
+
+impl ArenaMut<'_> {
+    /// Checks the arena once, for any number of reads: [`Arena::checked`].
+    ///
+    /// # Errors
+    ///
+    /// 1 to 11 as [`Arena::check`].
+    pub fn checked(&self) -> Result<Checked<'_>, Refusal> {
+        self.as_arena().checked()
+    }
+}
+
+impl<'a> Checked<'a> {
+    /// The arena that was checked.
+    #[must_use]
+    pub fn arena(&self) -> Arena<'a> {
+        self.arena
+    }
+
+    /// The header's words by name.
+    #[must_use]
+    pub fn header(&self) -> Header {
+        self.header
+    }
+
+    /// How many links there are.
+    #[must_use]
+    pub fn len(&self) -> usize {
+        self.header.link_count as usize
+    }
+
+    /// Whether there is no link.
+    #[must_use]
+    pub fn is_empty(&self) -> bool {
+        self.len() == 0
+    }
+
+    /// The pointer to the link in a slot, none if there is no link.
+    #[must_use]
+    pub fn ptr(&self, slot: Slot) -> Option<Ptr> {
+        let generation = word(self.arena.generation, slot);
+        let on_stack = u32::from(slot) <= self.header.stack_length;
+        (on_stack && generation != 0).then_some(Ptr { slot, generation })
+    }
+
+    /// Whether `p` names a link, that is whether it is not stale.
+    #[must_use]
+    pub fn contains(&self, p: Ptr) -> bool {
+        self.ptr(p.slot) == Some(p)
+    }
+
+    /// The link at `p`, its neighbours with their generations, as [`Arena::get_link`] answers it.
+    ///
+    /// # Errors
+    ///
+    /// 12 if `p` is stale.
+    pub fn link(&self, p: Ptr) -> Result<Link, Refusal> {
+        self.good(p).map(|slot| self.link_at(slot))
+    }
+
+    /// The link at `p`, its neighbours by their slots, as [`Arena::get_link_no_gen`] answers it.
+    ///
+    /// # Errors
+    ///
+    /// 12 if `p` is stale.
+    pub fn link_no_gen(&self, p: Ptr) -> Result<LinkNoGen, Refusal> {
+        let Link { prev, next, payload } = self.link(p)?;
+        Ok(LinkNoGen { prev: prev.map(|p| p.slot), next: next.map(|p| p.slot), payload })
+    }
+
+    /// The payload of the link at `p`.
+    ///
+    /// # Errors
+    ///
+    /// 12 if `p` is stale.
+    pub fn payload(&self, p: Ptr) -> Result<u32, Refusal> {
+        self.good(p).map(|slot| word(self.arena.payload, slot))
+    }
+
+    /// The link before the one at `p`.
+    ///
+    /// # Errors
+    ///
+    /// 12 if `p` is stale.
+    pub fn prev(&self, p: Ptr) -> Result<Option<Ptr>, Refusal> {
+        self.good(p).map(|slot| self.ptr(word(self.arena.prev, slot)))
+    }
+
+    /// The link after the one at `p`.
+    ///
+    /// # Errors
+    ///
+    /// 12 if `p` is stale.
+    pub fn next(&self, p: Ptr) -> Result<Option<Ptr>, Refusal> {
+        self.good(p).map(|slot| self.ptr(word(self.arena.next, slot)))
+    }
+
+    /// Whether the next of `p_prev` is `p_next`; false if one of them is stale.
+    #[must_use]
+    pub fn are_neighbors(&self, p_prev: Ptr, p_next: Ptr) -> bool {
+        self.contains(p_next) && self.next(p_prev) == Ok(Some(p_next))
+    }
+
+    /// The links of `p`'s chain in the order of [`Arena::walk`]: from `p` to the end of the chain, then from the link before
+    /// `p` back to the beginning; a closed chain is gone round once.
+    ///
+    /// # Errors
+    ///
+    /// 12 if `p` is stale.
+    pub fn chain(&self, p: Ptr) -> Result<Chain<'a>, Refusal> {
+        self.good(p).map(|slot| Chain::new(*self, slot))
+    }
+
+    /// The links of `p`'s chain along next: an open chain from its first link on, a closed one from `p` on. The first link
+    /// is looked for at once, back along prev.
+    ///
+    /// # Errors
+    ///
+    /// 12 if `p` is stale.
+    pub fn chain_from_first(&self, p: Ptr) -> Result<Chain<'a>, Refusal> {
+        self.good(p).map(|slot| {
+            let mut first = slot;
+            loop {
+                match word(self.arena.prev, first) {
+                    0 => break Chain::new(*self, first),
+                    prev if prev == slot => break Chain::new(*self, slot),
+                    prev => first = prev,
+                }
+            }
+        })
+    }
+
+    /// All chains, each along next: the open ones by their first links, then the closed ones by their lowest links, each
+    /// begun there, in the order of the slots. To visit all of them takes time in proportion to the stack.
+    pub fn chains(&self) -> Chains<'a> {
+        Chains { checked: *self, open: self.links(), closed: self.links(), visited: [0; WORDS] }
+    }
+
+    /// All links in the order of their slots.
+    pub fn links(&self) -> Links<'a> {
+        Links { checked: *self, below: 0, left: self.header.link_count }
+    }
+
+    /// The slot of `p`, which must not be stale.
+    fn good(&self, p: Ptr) -> Result<Slot, Refusal> {
+        if self.contains(p) { Ok(p.slot) } else { Err(Refusal::of(RefusalKind::StalePointer)) }
+    }
+
+    /// The link in a slot that has one.
+    fn link_at(&self, slot: Slot) -> Link {
+        Link {
+            prev: self.ptr(word(self.arena.prev, slot)),
+            next: self.ptr(word(self.arena.next, slot)),
+            payload: word(self.arena.payload, slot),
+        }
+    }
+
+    /// The link in a slot that has one, with its pointer.
+    fn item(&self, slot: Slot) -> (Ptr, Link) {
+        (Ptr { slot, generation: word(self.arena.generation, slot) }, self.link_at(slot))
+    }
+}
+
+/// The links of a chain, each with its pointer: [`Checked::chain`], [`Checked::chain_from_first`], [`Checked::chains`].
+#[derive(Clone, Debug)]
+#[must_use = "iterators are lazy and do nothing unless consumed"]
+pub struct Chain<'a> {
+    checked: Checked<'a>,
+    start: Slot,
+    position: Slot,
+    along_next: bool,
+}
+
+impl<'a> Chain<'a> {
+    /// The chain of a link.
+    fn new(checked: Checked<'a>, start: Slot) -> Self {
+        Self { checked, start, position: start, along_next: true }
+    }
+
+    /// Whether the chain is closed, that is whether its links go round.
+    #[must_use]
+    pub fn is_closed(&self) -> bool {
+        let mut slot = self.start;
+        loop {
+            match word(self.checked.arena.next, slot) {
+                0 => return false,
+                next if next == self.start => return true,
+                next => slot = next,
+            }
+        }
+    }
+
+    /// The slot after the position: at the end of an open chain the start's prev, at that of a closed chain none.
+    fn onward(&mut self) -> Slot {
+        let Arena { prev, next, .. } = self.checked.arena;
+        if !self.along_next {
+            return word(prev, self.position);
+        }
+        match word(next, self.position) {
+            0 => {
+                self.along_next = false;
+                word(prev, self.start)
+            }
+            next if next == self.start => 0,
+            next => next,
+        }
+    }
+}
+
+impl Iterator for Chain<'_> {
+    type Item = (Ptr, Link);
+
+    fn next(&mut self) -> Option<(Ptr, Link)> {
+        let slot = self.position;
+        if slot == 0 {
+            return None;
+        }
+        self.position = self.onward();
+        Some(self.checked.item(slot))
+    }
+}
+
+// The position stays 0.
+impl FusedIterator for Chain<'_> {}
+
+/// All links in the order of their slots, each with its pointer: [`Checked::links`].
+#[derive(Clone, Debug)]
+#[must_use = "iterators are lazy and do nothing unless consumed"]
+pub struct Links<'a> {
+    checked: Checked<'a>,
+    below: Slot,
+    left: u32,
+}
+
+impl Links<'_> {
+    /// The slot of the next link.
+    fn next_slot(&mut self) -> Option<Slot> {
+        self.left = self.left.checked_sub(1)?;
+        loop {
+            self.below = self.below.checked_add(1)?;
+            if self.checked.ptr(self.below).is_some() {
+                return Some(self.below);
+            }
+        }
+    }
+}
+
+impl Iterator for Links<'_> {
+    type Item = (Ptr, Link);
+
+    fn next(&mut self) -> Option<(Ptr, Link)> {
+        self.next_slot().map(|slot| self.checked.item(slot))
+    }
+
+    fn size_hint(&self) -> (usize, Option<usize>) {
+        (self.left as usize, Some(self.left as usize))
+    }
+}
+
+impl ExactSizeIterator for Links<'_> {}
+
+// Once no link is left, none is.
+impl FusedIterator for Links<'_> {}
+
+/// How many words have a bit for each slot.
+const WORDS: usize = (Slot::MAX as usize + 1) / 64;
+
+/// All chains: [`Checked::chains`]. It is 8 KiB large, since it remembers the links of the chains that it has given.
+#[derive(Clone, Debug)]
+#[must_use = "iterators are lazy and do nothing unless consumed"]
+pub struct Chains<'a> {
+    checked: Checked<'a>,
+    /// The links that may begin an open chain, and those that may begin a closed one
+    open: Links<'a>,
+    closed: Links<'a>,
+    /// A bit for each slot whose chain was given
+    visited: [u64; WORDS],
+}
+
+impl Chains<'_> {
+    /// Whether the chain of a slot was given already.
+    fn is_visited(&self, slot: Slot) -> bool {
+        self.visited[usize::from(slot) / 64] >> (slot % 64) & 1 != 0
+    }
+
+    /// Remembers all slots of a chain from its first on.
+    fn visit(&mut self, first: Slot) {
+        let mut slot = first;
+        loop {
+            self.visited[usize::from(slot) / 64] |= 1 << (slot % 64);
+            slot = word(self.checked.arena.next, slot);
+            if slot == 0 || slot == first {
+                return;
+            }
+        }
+    }
+
+    /// The slot that the next chain begins with. Once the open chains are given, a link that is not on one of them is on a
+    /// closed one.
+    fn next_first(&mut self) -> Option<Slot> {
+        while let Some(slot) = self.open.next_slot() {
+            if word(self.checked.arena.prev, slot) == 0 {
+                return Some(slot);
+            }
+        }
+        loop {
+            let slot = self.closed.next_slot()?;
+            if !self.is_visited(slot) {
+                return Some(slot);
+            }
+        }
+    }
+}
+
+impl<'a> Iterator for Chains<'a> {
+    type Item = Chain<'a>;
+
+    fn next(&mut self) -> Option<Chain<'a>> {
+        let first = self.next_first()?;
+        self.visit(first);
+        Some(Chain::new(self.checked, first))
+    }
+}
+
+// Both iterators over links are fused.
+impl FusedIterator for Chains<'_> {}
+
+/// The word of a column at a slot, 0 where it has none.
+fn word<T: Copy + Default>(column: &[T], slot: Slot) -> T {
+    usize::from(slot).checked_sub(1).and_then(|place| column.get(place)).copied().unwrap_or_default()
+}
