@@ -18,22 +18,33 @@ impl Compressed {
     pub fn of(before: &OwnedArena) -> Result<Self, Refusal> {
         let mut after = before.clone();
         let mut column = vec![0; before.capacity()];
-        let where_from = after.as_arena_mut().compress_canonical(NewGeneration::Next, &mut column)?.where_from.to_vec();
+        let where_from = after
+            .as_arena_mut()
+            .compress_canonical(NewGeneration::Next, &mut column)?
+            .where_from
+            .to_vec();
         Ok(Self { after, where_from })
     }
 
     /// A table with a line for each slot that the stack had, then header and chains before and after.
     pub fn table(&self, before: &OwnedArena) -> String {
         let names = cells(["prev", "next", "generation", "payload"]);
-        let mut text =
-            format!("     |{:<39} |{:<39} |\nslot |{names} |{names} | where-from\n", "  before", "  after");
+        let mut text = format!(
+            "     |{:<39} |{:<39} |\nslot |{names} |{names} | where-from\n",
+            "  before", "  after"
+        );
         for slot in before.stack() {
             let from = self.where_from.get(slot as usize - 1).copied().unwrap_or(0);
             let (old, new) = (words(before, slot), words(&self.after, slot));
             let _ = writeln!(text, "{slot:>4} |{old} |{new} | {from:>10}");
         }
         for (when, arena) in [("before", before), ("after", &self.after)] {
-            let Header { stack_length, link_count, root, generation } = arena.header();
+            let Header {
+                stack_length,
+                link_count,
+                root,
+                generation,
+            } = arena.header();
             let _ = writeln!(
                 text,
                 "{when}: stack length {stack_length}, link count {link_count}, root {root}, generation {generation}"
@@ -47,7 +58,12 @@ impl Compressed {
 /// The words of a slot that are read: of a free slot only its next, above the stack none.
 fn words(a: &OwnedArena, slot: u32) -> String {
     if a.is_link(slot) {
-        cells([a.prev(slot), a.next(slot), a.generation(slot), a.payload(slot)])
+        cells([
+            a.prev(slot),
+            a.next(slot),
+            a.generation(slot),
+            a.payload(slot),
+        ])
     } else if a.is_free(slot) {
         cells(["-", &a.next(slot).to_string(), "free", "-"])
     } else {

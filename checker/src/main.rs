@@ -21,8 +21,8 @@ use chain_arena::{OwnedArena, Refusal};
 
 use by_slot::BySlot;
 use explain::{Why, explain};
-use picture::{Kind, Picture};
 use panel::{Fault, Panel};
+use picture::{Kind, Picture};
 
 const USAGE: &str = "\
 usage: checker [check FILE | compress FILE] [--svg OUT]
@@ -74,8 +74,16 @@ struct Checked {
 impl Checked {
     /// Checks an arena.
     fn new(name: &str, arena: OwnedArena) -> Self {
-        let refused = arena.as_arena().check().err().map(|refusal| (refusal, explain(&arena, refusal)));
-        Self { name: name.to_string(), arena, refused }
+        let refused = arena
+            .as_arena()
+            .check()
+            .err()
+            .map(|refusal| (refusal, explain(&arena, refusal)));
+        Self {
+            name: name.to_string(),
+            arena,
+            refused,
+        }
     }
 
     /// Checks the arena of a text; what is wrong with the text is told with its place.
@@ -97,7 +105,11 @@ impl Checked {
             Some((refusal, why)) => format!("{}: {refusal}\n  {}\n", self.name, why.sentence),
             None => {
                 let picture = Picture::of(&self.arena);
-                format!("{}: passes the check: {}\n{picture}", self.name, counts(&self.arena, &picture))
+                format!(
+                    "{}: passes the check: {}\n{picture}",
+                    self.name,
+                    counts(&self.arena, &picture)
+                )
             }
         }
     }
@@ -105,13 +117,17 @@ impl Checked {
     /// The arena to draw.
     fn panel(&self) -> Panel {
         let why = self.refused.as_ref().map(|(_, why)| why);
-        let fault = |why: &Why| why.slot.map(|slot| Fault { slot, sentence: why.sentence.clone() });
+        let fault = |why: &Why| {
+            why.slot.map(|slot| Fault {
+                slot,
+                sentence: why.sentence.clone(),
+            })
+        };
         Panel {
             title: self.name.clone(),
-            sentence: self
-                .refused
-                .as_ref()
-                .map(|(refusal, why)| format!("refused with {}: {}", refusal.number(), why.sentence)),
+            sentence: self.refused.as_ref().map(|(refusal, why)| {
+                format!("refused with {}: {}", refusal.number(), why.sentence)
+            }),
             arena: self.arena.clone(),
             faults: why.and_then(fault).into_iter().collect(),
             where_from: Vec::new(),
@@ -120,7 +136,11 @@ impl Checked {
 
     /// Says what the check says.
     fn show(&self) -> Shown {
-        Shown { text: self.text(), panels: vec![self.panel()], passes: self.refused.is_none() }
+        Shown {
+            text: self.text(),
+            panels: vec![self.panel()],
+            passes: self.refused.is_none(),
+        }
     }
 }
 
@@ -152,7 +172,11 @@ fn compress(checked: &Checked) -> Result<Shown, String> {
     }
     let compressed = compress::Compressed::of(&checked.arena)
         .map_err(|refusal| format!("{}: {refusal}\n", checked.name))?;
-    let text = format!("{}, compressed:\n{}", checked.name, compressed.table(&checked.arena));
+    let text = format!(
+        "{}, compressed:\n{}",
+        checked.name,
+        compressed.table(&checked.arena)
+    );
     let after = Panel {
         title: format!("{}, compressed", checked.name),
         sentence: None,
@@ -160,7 +184,11 @@ fn compress(checked: &Checked) -> Result<Shown, String> {
         faults: Vec::new(),
         where_from: compressed.where_from,
     };
-    Ok(Shown { text, panels: vec![checked.panel(), after], passes: true })
+    Ok(Shown {
+        text,
+        panels: vec![checked.panel(), after],
+        passes: true,
+    })
 }
 
 /// Level Three is not linked.
@@ -173,7 +201,10 @@ fn compress(_: &Checked) -> Result<Shown, String> {
 fn samples() -> Result<Shown, String> {
     let whole = Checked::parse("K11", WHOLE.as_bytes())?;
     let broken = Checked::parse("a broken arena", BROKEN.as_bytes())?.show();
-    let compressed = compress(&whole).unwrap_or_else(|message| Shown { text: message, ..whole.show() });
+    let compressed = compress(&whole).unwrap_or_else(|message| Shown {
+        text: message,
+        ..whole.show()
+    });
     Ok(Shown {
         text: [whole.text(), compressed.text, broken.text].join("\n"),
         panels: compressed.panels.into_iter().chain(broken.panels).collect(),
@@ -190,7 +221,8 @@ fn answer(arguments: impl Iterator<Item = OsString>) -> Result<Shown, String> {
         Request::Samples => samples()?,
     };
     if let Some(out) = out {
-        fs::write(&out, svg::draw(&shown.panels)).map_err(|error| format!("{}: {error}\n", out.display()))?;
+        fs::write(&out, svg::draw(&shown.panels))
+            .map_err(|error| format!("{}: {error}\n", out.display()))?;
     }
     Ok(shown)
 }
@@ -200,7 +232,11 @@ fn main() -> ExitCode {
     match answer(env::args_os().skip(1)) {
         Ok(shown) => {
             let _ = io::stdout().write_all(shown.text.as_bytes());
-            if shown.passes { ExitCode::SUCCESS } else { ExitCode::from(1) }
+            if shown.passes {
+                ExitCode::SUCCESS
+            } else {
+                ExitCode::from(1)
+            }
         }
         Err(message) => {
             let _ = io::stderr().write_all(message.as_bytes());

@@ -71,13 +71,23 @@ impl Picture {
         for &slot in &links {
             if !drawn[slot as usize] {
                 let slots = follow(slot, &mut drawn, |slot| after(a, slot));
-                rows.push(Row { kind: Kind::Closed, slots, wrong_prev: None, wrong_next: None });
+                rows.push(Row {
+                    kind: Kind::Closed,
+                    slots,
+                    wrong_prev: None,
+                    wrong_next: None,
+                });
             }
         }
         rows.extend(freelist(a, &mut drawn));
         let slots: Vec<u32> = a.stack().filter(|&slot| !drawn[slot as usize]).collect();
         if !slots.is_empty() {
-            rows.push(Row { kind: Kind::Unlisted, slots, wrong_prev: None, wrong_next: None });
+            rows.push(Row {
+                kind: Kind::Unlisted,
+                slots,
+                wrong_prev: None,
+                wrong_next: None,
+            });
         }
         Self { rows }
     }
@@ -95,7 +105,9 @@ fn freelist(a: &OwnedArena, drawn: &mut [bool]) -> Option<Row> {
         return None;
     }
     let slots = if a.is_free(root) {
-        follow(root, drawn, |slot| Some(a.next(slot)).filter(|&next| a.is_free(next)))
+        follow(root, drawn, |slot| {
+            Some(a.next(slot)).filter(|&next| a.is_free(next))
+        })
     } else {
         Vec::new()
     };
@@ -103,7 +115,12 @@ fn freelist(a: &OwnedArena, drawn: &mut [bool]) -> Option<Row> {
         Some(&last) => Some(a.next(last)).filter(|&next| next != last),
         None => Some(root),
     };
-    Some(Row { kind: Kind::Freelist, slots, wrong_prev: None, wrong_next })
+    Some(Row {
+        kind: Kind::Freelist,
+        slots,
+        wrong_prev: None,
+        wrong_next,
+    })
 }
 
 /// The next of a link, if that is a link that names it back.
@@ -132,7 +149,11 @@ fn follow(first: u32, drawn: &mut [bool], onward: impl Fn(u32) -> Option<u32>) -
 /// only whole arenas are shown as text.
 impl fmt::Display for Row {
     fn fmt(&self, f: &mut fmt::Formatter<'_>) -> fmt::Result {
-        let back = self.slots.first().filter(|_| self.kind == Kind::Closed).map(|first| format!("({first})"));
+        let back = self
+            .slots
+            .first()
+            .filter(|_| self.kind == Kind::Closed)
+            .map(|first| format!("({first})"));
         let words = self.slots.iter().map(u32::to_string).chain(back);
         let mut line = format!("  {:<8}", self.kind.name());
         for (k, word) in words.enumerate() {

@@ -3,6 +3,7 @@
 
 #![cfg(any(feature = "level-one", feature = "level-two", feature = "level-three"))]
 
+#[expect(dead_code, reason = "the options of a C program stand below")]
 #[path = "../levels.rs"]
 mod levels;
 

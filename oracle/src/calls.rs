@@ -2,7 +2,7 @@
 
 use crate::random::Random;
 use crate::words::CALLS_IN_ALL;
-use crate::{Arena, Call, Ptr, Walk, model};
+use crate::{Arena, Call, Ptr, Reading, Walk, model};
 
 /// The header's word, 0 if the header has none.
 fn word(a: &Arena, place: usize) -> usize {

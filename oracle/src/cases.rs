@@ -1,7 +1,7 @@
 //! Cases taken whole: every small arena, every tuple of words, every call with every pointer.
 
 use crate::random::Random;
-use crate::{Arena, Call, Ptr, Walk, model};
+use crate::{Arena, Call, Ptr, Reading, Walk, model};
 
 /// How many arenas of stack length 0, 1, and so on up to 6 pass the check.
 pub const COUNTS: [usize; 7] = [1, 3, 13, 73, 501, 4_051, 37_633];

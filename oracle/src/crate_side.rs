@@ -11,7 +11,7 @@ use crate_text::utils::traits::NonZeroInxGenericStack;
 use crate_text::{ChainArena, InvalidationOption, InvalidationResult, LinkNoGen, StackBacking, reach};
 
 use crate::header::{GENERATION, LINKS, ROOT, STACK};
-use crate::{Arena, Call, LIMIT, Ptr, Reply, Walk};
+use crate::{Arena, Call, LIMIT, Ptr, Reading, Reply, Walk};
 
 crate_text::ptr_struct!(P0[NonZeroU16](NonZeroU32));
 

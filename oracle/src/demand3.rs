@@ -3,7 +3,7 @@
 
 use std::collections::BTreeMap;
 
-use crate::{Arena, model};
+use crate::{Arena, Reading, model};
 
 /// A chain as a list of words, open or closed.
 #[derive(Clone, Debug, PartialEq, Eq, PartialOrd, Ord)]

@@ -37,94 +37,54 @@ pub mod header {
     pub const GENERATION: usize = 3;
 }
 
-/// A lent arena; slot s has index s - 1 in the four columns. Nothing is promised of what the words say.
-#[derive(Clone, Debug, Default, PartialEq, Eq, Hash)]
-pub struct Arena {
-    /// Each link's neighbour before it, 0 for none
-    pub prev: Vec<u16>,
-    /// Each link's neighbour after it, 0 for none; in a free slot the freelist pointer
-    pub next: Vec<u16>,
-    /// Each link's generation, 0 in a free slot
-    pub generation: Vec<u32>,
-    /// Each link's payload
-    pub payload: Vec<u32>,
-    /// Stack length, link count, root, current generation
-    pub header: Vec<u32>,
+pub use chain_arena::{OwnedArena as Arena, Ptr, Walk};
+
+/// What the words of an arena say, where its columns and its header are as long as they must be.
+pub trait Reading {
+    /// The stack length.
+    fn stack(&self) -> usize;
+    /// The link count.
+    fn links(&self) -> usize;
+    /// The freelist root, 0 for none.
+    fn root(&self) -> u32;
+    /// The current generation.
+    fn current(&self) -> u32;
+    /// Whether slot `s` is a link of the stack.
+    fn is_link(&self, s: usize) -> bool;
+    /// The slots of the links, rising.
+    fn link_slots(&self) -> impl Iterator<Item = usize>;
+    /// The pointer to the link in slot `s`.
+    fn ptr(&self, s: usize) -> Ptr;
 }
 
-impl Arena {
-    /// An arena of no links that has room for `capacity` slots.
-    pub fn empty(capacity: usize) -> Self {
-        Self {
-            prev: vec![0; capacity],
-            next: vec![0; capacity],
-            generation: vec![0; capacity],
-            payload: vec![0; capacity],
-            header: vec![0, 0, 0, 2],
-        }
-    }
-
-    /// The number of slots that the columns have room for.
-    pub fn capacity(&self) -> usize {
-        self.prev.len()
-    }
-
-    /// The stack length.
-    pub fn stack(&self) -> usize {
+impl Reading for Arena {
+    fn stack(&self) -> usize {
         self.header[header::STACK] as usize
     }
 
-    /// The link count.
-    pub fn links(&self) -> usize {
+    fn links(&self) -> usize {
         self.header[header::LINKS] as usize
     }
 
-    /// The freelist root, 0 for none.
-    pub fn root(&self) -> u32 {
+    fn root(&self) -> u32 {
         self.header[header::ROOT]
     }
 
-    /// The current generation.
-    pub fn current(&self) -> u32 {
+    fn current(&self) -> u32 {
         self.header[header::GENERATION]
     }
 
-    /// Whether slot `s` is a link of the stack.
-    pub fn is_link(&self, s: usize) -> bool {
+    fn is_link(&self, s: usize) -> bool {
         (1..=self.stack()).contains(&s) && self.generation[s - 1] != 0
     }
 
-    /// The slots of the links, rising.
-    pub fn link_slots(&self) -> impl Iterator<Item = usize> {
+    fn link_slots(&self) -> impl Iterator<Item = usize> {
         (1..=self.stack()).filter(|&s| self.is_link(s))
     }
 
-    /// The pointer to the link in slot `s`.
-    pub fn ptr(&self, s: usize) -> Ptr {
+    fn ptr(&self, s: usize) -> Ptr {
         Ptr { slot: s as u16, generation: self.generation[s - 1] }
     }
-}
-
-/// A pointer: a slot and the generation that the link there should have.
-#[derive(Clone, Copy, Debug, PartialEq, Eq)]
-pub struct Ptr {
-    /// The slot
-    pub slot: u16,
-    /// The generation
-    pub generation: u32,
-}
-
-/// The state of a walk, any words.
-#[derive(Clone, Copy, Debug, PartialEq, Eq)]
-pub struct Walk {
-    /// The slot it began at
-    pub start: u32,
-    /// The slot that the next step will answer, 0 once the walk is over
-    pub position: u32,
-    /// 0: along next, any other word: along prev
-    pub direction: u32,
-    /// How many more steps may advance
-    pub left: u32,
 }
 
 /// A call with its arguments. The slices that it lends are in it, so that they can be compared after the call.

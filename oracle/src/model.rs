@@ -2,7 +2,7 @@
 //! crate does not tell, as 12 from 13.
 
 use crate::header::{GENERATION, LINKS, ROOT, STACK};
-use crate::{Arena, Call, LIMIT, Ptr, Reply, Walk};
+use crate::{Arena, Call, LIMIT, Ptr, Reading, Reply, Walk};
 
 /// Makes one call, which begins with the check (REFERENCE, Replies).
 pub fn perform(a: &mut Arena, call: &mut Call) -> Reply {

@@ -1,7 +1,7 @@
 //! Random arenas from a seed: whole ones of every kind, and damage to them.
 
 use crate::header::{GENERATION, LINKS, ROOT, STACK};
-use crate::{Arena, LIMIT, model};
+use crate::{Arena, LIMIT, Reading, model};
 
 /// A xorshift generator; the same seed gives the same numbers everywhere.
 pub struct Random(u64);

@@ -8,7 +8,7 @@ use crate::cases;
 use crate::compare::{Counts, Live, Mismatch, Outcome, Product, compare, model_outcome};
 use crate::random::{self, Random, Style};
 use crate::runner::{Jobs, Judge};
-use crate::{Arena, Call, LIMIT, Ptr, demand3};
+use crate::{Arena, Call, LIMIT, Ptr, Reading, demand3};
 
 /// The short form is for every run of the gate, the long one for once.
 #[derive(Clone, Copy, PartialEq, Eq)]

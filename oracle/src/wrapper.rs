@@ -4,13 +4,8 @@ use chain_arena::{Link, LinkNoGen, Refusal};
 
 use crate::{Arena, Call, Ptr, Reply, Walk};
 
-/// The wrapper's pointer.
-fn pointer(p: Ptr) -> chain_arena::Ptr {
-    chain_arena::Ptr { slot: p.slot, generation: p.generation }
-}
-
 /// The two words of a pointer, 0 and 0 for none.
-fn pointer_words(p: Option<chain_arena::Ptr>) -> [u32; 2] {
+fn pointer_words(p: Option<Ptr>) -> [u32; 2] {
     p.map_or([0, 0], |p| [p.slot.into(), p.generation])
 }
 
@@ -45,30 +40,15 @@ pub fn perform(a: &mut Arena, call: &mut Call) -> Option<Reply> {
     }
 }
 
-/// The arena as it is lent to be read.
-pub fn lent(a: &Arena) -> chain_arena::Arena<'_> {
-    chain_arena::Arena {
-        prev: &a.prev,
-        next: &a.next,
-        generation: &a.generation,
-        payload: &a.payload,
-        header: &a.header,
-    }
-}
-
 /// The calls of Level One.
 fn level_one(a: &Arena, call: &Call) -> Reply {
-    let arena = lent(a);
+    let arena = a.as_arena();
     match *call {
-        Call::GetLink(p) => reply(arena.get_link(pointer(p)).map(|link| (0, link_words(link)))),
-        Call::GetLinkNoGen(p) => reply(arena.get_link_no_gen(pointer(p)).map(|link| (0, no_gen_words(link)))),
-        Call::AreNeighbors(p, q) => {
-            reply(arena.are_neighbors(pointer(p), pointer(q)).map(|yes| (0, vec![yes.into()])))
-        }
+        Call::GetLink(p) => reply(arena.get_link(p).map(|link| (0, link_words(link)))),
+        Call::GetLinkNoGen(p) => reply(arena.get_link_no_gen(p).map(|link| (0, no_gen_words(link)))),
+        Call::AreNeighbors(p, q) => reply(arena.are_neighbors(p, q).map(|yes| (0, vec![yes.into()]))),
         Call::WalkStart(p) => reply(
-            arena
-                .walk_start(pointer(p))
-                .map(|walk| (0, vec![walk.start, walk.position, walk.direction, walk.left])),
+            arena.walk_start(p).map(|walk| (0, vec![walk.start, walk.position, walk.direction, walk.left])),
         ),
         Call::WalkStep(walk) => walk_step(&arena, walk),
         _ => reply(arena.check().map(|()| (0, vec![]))),
@@ -77,24 +57,11 @@ fn level_one(a: &Arena, call: &Call) -> Reply {
 
 /// A step; also a refused one hands back its state.
 fn walk_step(arena: &chain_arena::Arena<'_>, walk: Walk) -> Reply {
-    let Walk { start, position, direction, left } = walk;
-    let mut state = chain_arena::Walk { start, position, direction, left };
+    let mut state = walk;
     let answer = state.step(arena);
     let mut reply = reply(answer.map(|p| (0, pointer_words(p).to_vec())));
     reply.words[2..].copy_from_slice(&[state.start, state.position, state.direction, state.left]);
     reply
-}
-
-/// The arena as it is lent to be written.
-#[cfg(any(level_two, level_three))]
-fn lent_mut(a: &mut Arena) -> chain_arena::ArenaMut<'_> {
-    chain_arena::ArenaMut {
-        prev: &mut a.prev,
-        next: &mut a.next,
-        generation: &mut a.generation,
-        payload: &mut a.payload,
-        header: &mut a.header,
-    }
 }
 
 /// The number of a call that was done.
@@ -106,24 +73,24 @@ fn number(overflowed: bool) -> u32 {
 /// The calls of Level Two.
 #[cfg(level_two)]
 fn level_two(a: &mut Arena, call: &mut Call) -> Option<Reply> {
-    let mut arena = lent_mut(a);
+    let mut arena = a.as_arena_mut();
     let plain = |answer: Result<(), Refusal>| reply(answer.map(|()| (0, vec![])));
     Some(match call {
-        Call::Connect(p, q) => plain(arena.connect(pointer(*p), pointer(*q))),
-        Call::BreakPrev(p) => plain(arena.break_prev(pointer(*p))),
-        Call::BreakNext(p) => plain(arena.break_next(pointer(*p))),
-        Call::ExchangeNext(p, q) => plain(arena.exchange_next(pointer(*p), pointer(*q))),
-        Call::Remove(p) => reply(
-            arena.remove(pointer(*p)).map(|removed| (number(removed.overflowed), no_gen_words(removed.link))),
-        ),
-        Call::Drain(p, report) => reply(arena.drain(pointer(*p), report).map(|drained| {
+        Call::Connect(p, q) => plain(arena.connect(*p, *q)),
+        Call::BreakPrev(p) => plain(arena.break_prev(*p)),
+        Call::BreakNext(p) => plain(arena.break_next(*p)),
+        Call::ExchangeNext(p, q) => plain(arena.exchange_next(*p, *q)),
+        Call::Remove(p) => {
+            reply(arena.remove(*p).map(|removed| (number(removed.overflowed), no_gen_words(removed.link))))
+        }
+        Call::Drain(p, report) => reply(arena.drain(*p, report).map(|drained| {
             assert_eq!(drained.links().count(), drained.report.len());
             for (item, words) in drained.links().zip(drained.report) {
                 let [slot, generation] = pointer_words(Some(item.ptr));
                 let link = no_gen_words(item.link);
                 assert_eq!(*words, [slot, generation, link[0], link[1], link[2]]);
             }
-            (0, vec![drained.report.len() as u32, drained.overflowed.unwrap_or(0)])
+            (0, vec![drained.report.len() as u32, drained.overflowed_at.map_or(0, |place| place as u32 + 1)])
         })),
         Call::SetGeneration(to) => plain(arena.set_generation(*to)),
         Call::IncGeneration => reply(arena.inc_generation().map(|done| (number(done.overflowed), vec![]))),
@@ -160,8 +127,8 @@ fn run(arena: &mut chain_arena::ArenaMut<'_>, words: &[u32], answers: &mut [u32]
 #[cfg(level_two)]
 fn command(&[code, p, p_generation, q, q_generation]: &[u32; 5]) -> Option<chain_arena::Command> {
     use chain_arena::Command;
-    let p = chain_arena::Ptr { slot: p.try_into().ok()?, generation: p_generation };
-    let q = chain_arena::Ptr { slot: q.try_into().ok()?, generation: q_generation };
+    let p = Ptr { slot: p.try_into().ok()?, generation: p_generation };
+    let q = Ptr { slot: q.try_into().ok()?, generation: q_generation };
     match code {
         1 => Some(Command::Connect(p, q)),
         2 => Some(Command::BreakPrev(p)),
@@ -181,10 +148,10 @@ fn level_two(_: &mut Arena, _: &mut Call) -> Option<Reply> {
 /// The calls of Level Three.
 #[cfg(level_three)]
 fn level_three(a: &mut Arena, call: &mut Call) -> Option<Reply> {
-    let mut arena = lent_mut(a);
+    let mut arena = a.as_arena_mut();
     Some(match call {
         Call::CompressWith(reset, report) => {
-            reply(arena.compress_with(*reset != 0, report).map(|compressed| {
+            reply(arena.compress_with(new_generation(*reset), report).map(|compressed| {
                 for (moved, words) in compressed.links().zip(compressed.report) {
                     let words_of = [moved.from, moved.to].map(|p| pointer_words(Some(p)));
                     assert_eq!(words_of.as_flattened(), words);
@@ -194,11 +161,17 @@ fn level_three(a: &mut Arena, call: &mut Call) -> Option<Reply> {
         }
         Call::CompressCanonical(reset, from) => reply(
             arena
-                .compress_canonical(*reset != 0, from)
+                .compress_canonical(new_generation(*reset), from)
                 .map(|compressed| (number(compressed.overflowed), vec![])),
         ),
         _ => return None,
     })
+}
+
+/// What a reset word asks for.
+#[cfg(level_three)]
+fn new_generation(reset: u32) -> chain_arena::NewGeneration {
+    if reset == 0 { chain_arena::NewGeneration::Next } else { chain_arena::NewGeneration::Reset }
 }
 
 /// Level Three is not linked.

@@ -4,7 +4,7 @@ use std::collections::{HashMap, HashSet};
 
 use oracle::cases::{self, COUNTS};
 use oracle::compare::{Counts, compare};
-use oracle::{Arena, Call, demand3, guards, model};
+use oracle::{Arena, Call, Reading, demand3, guards, model};
 
 #[test]
 fn there_are_so_many() {

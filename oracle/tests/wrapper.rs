@@ -1,11 +1,11 @@
-//! The safe wrapper answers what the exported calls answer: any call on whole and damaged arenas, and the chain that it
-//! follows on its own against the walk.
+//! The safe wrapper answers what the exported calls answer: any call on whole and damaged arenas; and the view of a checked
+//! arena, which reads the columns itself, reads what the proved calls read.
 
-use chain_arena::Ptr;
+use chain_arena::{Checked, Link, Ptr, Refusal};
 use oracle::calls::some_call;
 use oracle::compare::{Counts, agrees, model_outcome, wrapper_outcome};
 use oracle::random::{self, Random};
-use oracle::{Arena, LIMIT, cases, model, wrapper};
+use oracle::{Arena, LIMIT, Reading, cases};
 
 #[test]
 fn any_call() {
@@ -27,33 +27,152 @@ fn any_call() {
     }
 }
 
-/// Holds the wrapper's chain of every link to the model's, and where it is short to the wrapper's walk.
-fn hold_chains(a: &Arena) {
-    let lent = wrapper::lent(a);
-    for s in a.link_slots() {
-        let ptr = |s: usize| Ptr { slot: s as u16, generation: a.generation[s - 1] };
-        let expected: Vec<Ptr> = model::chain_of(a, s).into_iter().map(ptr).collect();
-        assert_eq!(lent.chain(ptr(s)).unwrap().collect::<Vec<_>>(), expected);
-        assert_eq!(lent.walk(ptr(s)).unwrap().collect::<Vec<_>>(), expected);
-    }
+/// Where a view of a checked arena parts from the proved calls on an arena: in what it answers for some pointer or two, or
+/// in the chains or links that it lists.
+fn parting(view: Checked<'_>, a: &Arena) -> Option<String> {
+    let arena = a.as_arena();
+    let pointers = pointers(a);
+    let one = pointers.iter().find_map(|&p| reading_parts(view, arena, p));
+    let two = || {
+        let pairs = pointers.iter().flat_map(|&p| pointers.iter().map(move |&q| (p, q)));
+        let mut pairs = pairs.filter(|&(p, q)| Ok(view.are_neighbors(p, q)) != arena.are_neighbors(p, q));
+        pairs.next().map(|(p, q)| format!("are_neighbors({p:?}, {q:?})"))
+    };
+    one.or_else(two).or_else(|| listing_parts(view, a))
+}
+
+/// Pointers to every slot of the stack, to 0 and to the slot above, each with the slot's generation and with others.
+fn pointers(a: &Arena) -> Vec<Ptr> {
+    let generations = |s: usize| {
+        let own = s.checked_sub(1).and_then(|place| a.generation.get(place)).copied().unwrap_or(0);
+        [own, own.wrapping_add(1), 0, a.current()]
+    };
+    let slots = 0..=a.stack() + 1;
+    slots.flat_map(|s| generations(s).map(|generation| Ptr { slot: s as u16, generation })).collect()
+}
+
+/// The links of a chain as the proved calls give them, step by step.
+fn walked(arena: chain_arena::Arena<'_>, p: Ptr) -> Result<Vec<(Ptr, Link)>, Refusal> {
+    arena.walk(p)?.map(|p| arena.get_link(p).map(|link| (p, link))).collect()
+}
+
+/// What a view reads at a pointer otherwise than the proved calls.
+fn reading_parts(view: Checked<'_>, arena: chain_arena::Arena<'_>, p: Ptr) -> Option<String> {
+    let link = arena.get_link(p);
+    let along_next = || {
+        let mut chain = walked(arena, p)?;
+        let behind =
+            chain.iter().position(|(_, link)| link.next.is_none()).map_or(chain.len(), |end| end + 1);
+        chain[behind..].reverse();
+        chain.rotate_left(behind);
+        Ok(chain)
+    };
+    let found = [
+        ("link", view.link(p) == link),
+        ("link_no_gen", view.link_no_gen(p) == arena.get_link_no_gen(p)),
+        ("payload", view.payload(p) == link.map(|link| link.payload)),
+        ("prev", view.prev(p) == link.map(|link| link.prev)),
+        ("next", view.next(p) == link.map(|link| link.next)),
+        ("contains", view.contains(p) == link.is_ok()),
+        ("ptr", view.ptr(p.slot) == Some(p) || link.is_err()),
+        ("chain", view.chain(p).map(Iterator::collect) == walked(arena, p)),
+        ("chain_from_first", view.chain_from_first(p).map(Iterator::collect) == along_next()),
+        (
+            "is_closed",
+            view.chain(p).map(|chain| chain.is_closed()) == walked(arena, p).map(|chain| closed(&chain)),
+        ),
+    ];
+    found.iter().find(|(_, alike)| !alike).map(|(name, _)| format!("{name}({p:?})"))
+}
+
+/// Whether a chain goes round.
+fn closed(chain: &[(Ptr, Link)]) -> bool {
+    chain.iter().all(|(_, link)| link.next.is_some())
+}
+
+/// What is wrong with the chains or links that a view lists: not every link once, or another order than is told.
+fn listing_parts(view: Checked<'_>, a: &Arena) -> Option<String> {
+    let arena = a.as_arena();
+    let read = |s| (a.ptr(s), arena.get_link(a.ptr(s)).expect("a link of the arena"));
+    let links: Vec<(Ptr, Link)> = a.link_slots().map(read).collect();
+    let chains: Vec<Vec<(Ptr, Link)>> = view.chains().map(Iterator::collect).collect();
+    let mut on_chains = chains.concat();
+    on_chains.sort_by_key(|(p, _)| p.slot);
+    let along_next = |chain: &Vec<(Ptr, Link)>| {
+        let lowest = chain.iter().map(|(p, _)| p.slot).min();
+        let begins = chain[0].1.prev.is_none() || lowest == Some(chain[0].0.slot);
+        begins && walked(arena, chain[0].0).as_ref() == Ok(chain)
+    };
+    let order: Vec<_> = chains.iter().map(|chain| (closed(chain), chain[0].0.slot)).collect();
+    let found = [
+        ("links", view.links().eq(links.iter().copied())),
+        ("len", (view.len(), view.links().len(), view.is_empty()) == (a.links(), a.links(), a.links() == 0)),
+        ("chains, each link once", on_chains == links),
+        ("chains, along next", chains.iter().all(along_next)),
+        ("chains, in order", order.is_sorted()),
+        (
+            "chains, closed or not",
+            view.chains().map(|chain| chain.is_closed()).eq(chains.iter().map(|c| closed(c))),
+        ),
+        ("header", view.header().words() == *a.header),
+    ];
+    found.iter().find(|(_, alike)| !alike).map(|(name, _)| name.to_string())
+}
+
+/// Holds the view of an arena to the proved calls.
+fn hold_view(a: &Arena) {
+    let view = a.as_arena().checked().expect("an arena that passes the check");
+    assert_eq!(parting(view, a), None, "{a:?}");
 }
 
 #[test]
-fn a_chain_is_its_walk() {
+fn the_view_of_a_checked_arena_is_what_the_calls_read() {
     for length in 0..=4 {
-        cases::dressed_arenas(length).iter().for_each(hold_chains);
+        cases::dressed_arenas(length).iter().for_each(hold_view);
     }
-    for seed in 0..500 {
-        hold_chains(&random::any_whole(&mut Random::new(9_000_000 + seed), 60));
+    for seed in 0..300 {
+        hold_view(&random::any_whole(&mut Random::new(9_000_000 + seed), 30));
     }
 }
 
 #[test]
-fn a_long_chain() {
+fn a_damaged_arena_has_no_view() {
+    let mut refused = 0;
+    for seed in 0..20_000 {
+        let a = random::damaged(&mut Random::new(9_500_000 + seed), 12);
+        assert_eq!(a.as_arena().checked().map(|_| ()), a.as_arena().check());
+        refused += usize::from(a.as_arena().check().is_err());
+    }
+    assert!(refused > 15_000, "only {refused} arenas were damaged");
+}
+
+/// What can be read of an arena: its header, and of each slot of the stack the generation, and of a link all words.
+fn readable(a: &Arena) -> (Vec<u32>, Vec<[u32; 4]>) {
+    let words =
+        |s: usize| [a.prev[s - 1].into(), a.next[s - 1].into(), a.generation[s - 1], a.payload[s - 1]];
+    (a.header.clone(), (1..=a.stack()).map(|s| if a.is_link(s) { words(s) } else { [0; 4] }).collect())
+}
+
+#[test]
+fn the_view_of_another_arena_is_found_out() {
+    let arenas: Vec<Arena> = (0..=3).flat_map(cases::dressed_arenas).collect();
+    let mut told_apart = 0;
+    for (a, b) in arenas.iter().flat_map(|a| arenas.iter().map(move |b| (a, b))) {
+        if readable(a) != readable(b) {
+            assert!(parting(a.as_arena().checked().unwrap(), b).is_some(), "{a:?} for {b:?}");
+            told_apart += 1;
+        }
+    }
+    assert!(told_apart > 100_000, "only {told_apart} pairs");
+}
+
+#[test]
+fn a_long_chain_is_read_in_linear_time() {
     let style = random::Style { free: 0, longest: LIMIT, even: true, scattered: true, closed: 0 };
     let a = random::whole(&mut Random::new(1), LIMIT, LIMIT, style);
-    let lent = wrapper::lent(&a);
+    let view = a.as_arena().checked().unwrap();
     let p = Ptr { slot: 1, generation: a.generation[0] };
-    assert_eq!(lent.chain(p).unwrap().count(), LIMIT);
-    assert!(lent.walk(p).unwrap().take(50).eq(lent.chain(p).unwrap().take(50)));
+    assert_eq!(view.chain(p).unwrap().count(), LIMIT);
+    assert_eq!(view.chains().map(Iterator::count).collect::<Vec<_>>(), [LIMIT]);
+    assert!(a.as_arena().walk(p).unwrap().take(50).eq(view.chain(p).unwrap().map(|(p, _)| p).take(50)));
 }

@@ -9,7 +9,7 @@ use oracle::random::{self, Random};
 use oracle::runner::{Failure, Run};
 use oracle::sections::{Form, SECTIONS};
 use oracle::words::CALLS_IN_ALL;
-use oracle::{Arena, Call, Ptr, Reply, Walk, calls, cases, demand3, model, shrink};
+use oracle::{Arena, Call, Ptr, Reading, Reply, Walk, calls, cases, demand3, model, shrink};
 
 /// Every outcome that differs from the given one in one word.
 fn one_word_off(right: &Outcome) -> Vec<Outcome> {

@@ -13,7 +13,7 @@ use std::time::{Duration, Instant};
 
 use oracle::compare::crate_text_found;
 use oracle::random::{self, Random, Style};
-use oracle::{Arena, Call, LIMIT, calls, exports, model};
+use oracle::{Arena, Call, LIMIT, Reading, calls, exports, model};
 
 /// How many times each side makes its call at least, and how often where one call takes long.
 const ROUNDS: usize = 31;

@@ -20,7 +20,7 @@ use oracle::compare::{Outcome, crate_number, crate_outcome, crate_text_found, mo
 use oracle::header::GENERATION;
 use oracle::random::{self, Random};
 use oracle::words::CALLS_IN_ALL;
-use oracle::{Arena, Call, Reply, cases};
+use oracle::{Arena, Call, Reading, Reply, cases};
 
 /// The programs, each with the codes of its calls.
 const PROGRAMS: [(&str, &[usize]); 5] = [
