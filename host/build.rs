@@ -1,9 +1,14 @@
-// Links the archive of each level that is asked for as a feature; `archives` proves and makes it.
+// Links the archive of each level that is asked for as a feature: a ready one from the folder that CHAIN_ARENA_ARCHIVES names,
+// else one that the repository's script `archives` proves and makes, or finds made.
 
 use std::env;
-use std::fs;
+use std::fs::{self, File, OpenOptions};
+use std::io::{BufRead, BufReader, IsTerminal, Write};
+use std::os::unix::fs::FileTypeExt;
+use std::os::unix::process::parent_id;
 use std::path::{Path, PathBuf};
-use std::process::{Command, exit};
+use std::process::{Command, Stdio, exit};
+use std::time::Instant;
 
 #[expect(dead_code, reason = "the names that a level exports are for the tests")]
 #[path = "levels.rs"]
@@ -22,28 +27,123 @@ fn stop(message: &str) -> ! {
     exit(0);
 }
 
-/// Has `archives` prove the named levels and write their archives into the folder.
+/// A variable that cargo sets, empty where it does not.
+fn set_by_cargo(name: &str) -> String {
+    env::var(name).unwrap_or_default()
+}
+
+/// Ends where the archives cannot be linked: they hold code for x86-64 Linux.
+fn hold_target() {
+    let [arch, os, width] =
+        ["ARCH", "OS", "POINTER_WIDTH"].map(|of| set_by_cargo(&format!("CARGO_CFG_TARGET_{of}")));
+    if (arch.as_str(), os.as_str(), width.as_str()) != ("x86_64", "linux", "64") {
+        let target = set_by_cargo("TARGET");
+        stop(&format!(
+            "chain_arena is proved code that was compiled for x86-64 Linux, and cannot be linked for {target}"
+        ));
+    }
+}
+
+/// Names in a sentence: `a`, `a and b`, `a, b and c`.
+fn sentence(names: &[String]) -> String {
+    match names {
+        [] => String::new(),
+        [one] => one.clone(),
+        [first @ .., last] => format!("{} and {last}", first.join(", ")),
+    }
+}
+
+/// The file of a level's archive.
+fn archive(level: &str) -> String {
+    format!("lib{level}.a")
+}
+
+/// Where cargo's own messages go, if that is a terminal or a pipe. A build script's output is shown only when it has ended,
+/// which would leave minutes of proving without a word.
+fn messages() -> Option<File> {
+    let path = format!("/proc/{}/fd/2", parent_id());
+    let kind = fs::metadata(&path).ok()?.file_type();
+    let open = || OpenOptions::new().append(true).open(&path).ok();
+    (kind.is_char_device() || kind.is_fifo()).then(open)?
+}
+
+/// Says a line at once, over cargo's progress bar if there may be one.
+fn say(messages: &mut Option<File>, line: &str) {
+    if let Some(out) = messages {
+        let clear = if out.is_terminal() { "\r\x1b[K" } else { "" };
+        let _ = writeln!(out, "{clear}{line}");
+    }
+    eprintln!("{line}");
+}
+
+/// Has `archives` make the archives of the levels, or find them made, and write them into the folder. What it says of its
+/// progress is said at once; where nobody can be told meanwhile, a warning tells afterwards that something was proved.
 fn prove(root: &Path, levels: &[&str], out: &Path) {
-    let output = match Command::new("bash").arg("archives").arg(out).args(levels).current_dir(root).output() {
-        Ok(output) => output,
+    let began = Instant::now();
+    let spawned = Command::new("bash")
+        .arg("archives")
+        .arg(out)
+        .args(levels)
+        .current_dir(root)
+        .stdout(Stdio::null())
+        .stderr(Stdio::piped())
+        .spawn();
+    let mut child = match spawned {
+        Ok(child) => child,
         Err(error) => stop(&format!(
             "bash, which makes the archives that this package links, could not be run: {error}"
         )),
     };
-    if !output.status.success() {
-        let said = String::from_utf8_lossy(&output.stderr);
-        stop(&format!("{said}`bash archives` failed. A folder with ready archives can be named in {READY}."));
+    let mut messages = messages();
+    let mut said = Vec::new();
+    for line in
+        child.stderr.take().into_iter().flat_map(|stderr| BufReader::new(stderr).split(b'\n')).flatten()
+    {
+        let line = String::from_utf8_lossy(&line).into_owned();
+        if line.starts_with("archives: ") {
+            say(&mut messages, &format!("{line} ({} s)", began.elapsed().as_secs()));
+        }
+        said.push(line);
+    }
+    if !child.wait().is_ok_and(|status| status.success()) {
+        let said = said.join("\n");
+        stop(&format!(
+            "{said}\n`bash archives` failed. A folder with ready archives can be named in {READY}."
+        ));
+    }
+    if !said.is_empty() && messages.is_none() {
+        println!("cargo::warning=the archives were proved and compiled in {} s", began.elapsed().as_secs());
     }
 }
 
-/// Copies a ready archive of each named level into the folder.
+/// The folder of ready archives: a relative one is meant from where cargo was called.
+fn ready_folder(named: &Path) -> PathBuf {
+    let called_from = fs::read_link(format!("/proc/{}/cwd", parent_id())).or_else(|_| env::current_dir());
+    called_from.map_or_else(|_| named.to_path_buf(), |folder| folder.join(named))
+}
+
+/// Copies a ready archive of each level into the folder.
 fn copy(ready: &Path, levels: &[&str], out: &Path) {
+    let held = |level: &&str| ready.join(archive(level)).is_file();
+    let lacks: Vec<&str> = levels.iter().copied().filter(|level| !held(level)).collect();
+    if !lacks.is_empty() {
+        let holds: Vec<String> = LEVELS.iter().map(|level| level.name).filter(held).map(archive).collect();
+        let holds = if holds.is_empty() { "no archive".to_string() } else { sentence(&holds) };
+        let files: Vec<String> = lacks.iter().map(|level| archive(level)).collect();
+        let features: Vec<String> = lacks.iter().map(|level| level.replace('_', "-")).collect();
+        stop(&format!(
+            "the folder {}, which {READY} names, lacks {}; it has {holds}\n`bash archives OUT` writes all of them into a folder OUT; without the cargo feature {} the build does not ask for {}",
+            ready.display(),
+            sentence(&files),
+            sentence(&features),
+            if lacks.len() == 1 { "it" } else { "them" },
+        ));
+    }
     for level in levels {
-        let name = format!("lib{level}.a");
-        let archive = ready.join(&name);
-        println!("cargo::rerun-if-changed={}", archive.display());
-        if let Err(error) = fs::copy(&archive, out.join(&name)) {
-            stop(&format!("{} could not be copied: {error}", archive.display()));
+        let from = ready.join(archive(level));
+        println!("cargo::rerun-if-changed={}", from.display());
+        if let Err(error) = fs::copy(&from, out.join(archive(level))) {
+            stop(&format!("{} could not be copied: {error}", from.display()));
         }
     }
 }
@@ -55,20 +155,32 @@ fn wanted(level: &Level) -> bool {
 
 fn main() {
     let out = PathBuf::from(env::var_os("OUT_DIR").expect("cargo sets OUT_DIR"));
+    let root = Path::new("..");
     println!("cargo::rerun-if-env-changed={READY}");
-    for read in ["build.rs", "levels.rs", "../archives", "../crates", "../crates.txt"] {
+    for read in ["build.rs", "levels.rs"] {
         println!("cargo::rerun-if-changed={read}");
     }
     println!("cargo::rustc-link-search=native={}", out.display());
     println!("cargo::rustc-env=CHAIN_ARENA_LINKED={}", out.display());
-    for level in LEVELS {
-        let _ = fs::remove_file(out.join(format!("lib{}.a", level.name)));
-    }
     let levels: Vec<&str> = LEVELS.iter().filter(|level| wanted(level)).map(|level| level.name).collect();
-    match env::var_os(READY) {
-        Some(ready) => copy(Path::new(&ready), &levels, &out),
+    if !levels.is_empty() {
+        hold_target();
+    }
+    for level in LEVELS.iter().filter(|level| !wanted(level)) {
+        let _ = fs::remove_file(out.join(archive(level.name)));
+    }
+    match env::var_os(READY).filter(|folder| !folder.is_empty()) {
+        Some(ready) => copy(&ready_folder(Path::new(&ready)), &levels, &out),
         None if levels.is_empty() => {}
-        None => prove(Path::new(".."), &levels, &out),
+        None if !root.join("archives").is_file() => stop(&format!(
+            "this package stands alone, so its archives cannot be proved here: {READY} must name a folder with ready ones"
+        )),
+        None => {
+            for read in ["archives", "crates", "crates.txt"] {
+                println!("cargo::rerun-if-changed={}", root.join(read).display());
+            }
+            prove(root, &levels, &out);
+        }
     }
     for level in levels {
         println!("cargo::rustc-link-lib=static={level}");

@@ -1,0 +1,151 @@
+//! The script `archives`: which archives it makes again, and which it leaves. A stand-in for the toolchain writes down what it is asked for.
+
+use std::fs;
+use std::os::unix::fs::PermissionsExt;
+use std::path::{Path, PathBuf};
+use std::process::{Command, Output};
+
+/// A stand-in for `rt`: it proves everything, and compiles a crate to an archive that holds one file with the crate's text.
+const RT: &str = r#"#!/usr/bin/env bash
+case $1 in
+  version) echo stand-in ;;
+  check) shift; for crate; do echo "check $crate" >> "$ASKED"; echo "rt: $crate proved (0 s)"; done ;;
+  staticlib)
+    echo "staticlib $2" >> "$ASKED"
+    ! grep -q wrong "crates/$2/src/lib.rt" || exit 1
+    mkdir -p target/staticlib && cp "crates/$2/src/lib.rt" "target/staticlib/$2.text"
+    rm -f "target/staticlib/lib$2.a" && (cd target/staticlib && ar rc "lib$2.a" "$2.text") ;;
+esac
+"#;
+
+/// A small repository with the script, and the stand-in.
+struct Stage {
+    folder: PathBuf,
+}
+
+impl Stage {
+    /// Two levels of one and two crates of exports over a crate `below`, and a third of one crate that stands alone.
+    fn new(name: &str) -> Self {
+        let folder = Path::new(env!("CARGO_TARGET_TMPDIR")).join(format!("archives_{name}"));
+        let _ = fs::remove_dir_all(&folder);
+        let stage = Self { folder };
+        let script = fs::read_to_string(Path::new(env!("CARGO_MANIFEST_DIR")).join("../archives")).unwrap();
+        stage.write("repository/archives", &script);
+        stage.write(
+            "repository/crates.txt",
+            "below:\nlevel_one_a: below\nlevel_two_a: below\nlevel_two_b: below\nlevel_three_a:\n",
+        );
+        for one in ["below", "level_one_a", "level_two_a", "level_two_b", "level_three_a"] {
+            stage.write(&format!("repository/crates/{one}/src/lib.rt"), &format!("{one}\n"));
+        }
+        stage.write("tools/rt", RT);
+        fs::set_permissions(stage.folder.join("tools/rt"), fs::Permissions::from_mode(0o755)).unwrap();
+        stage
+    }
+
+    /// Writes a file of the stage.
+    fn write(&self, name: &str, text: &str) {
+        let path = self.folder.join(name);
+        fs::create_dir_all(path.parent().unwrap()).unwrap();
+        fs::write(path, text).unwrap();
+    }
+
+    /// Runs the script from another folder.
+    fn run(&self, arguments: &[&str]) -> Output {
+        let path = format!("{}:{}", self.folder.join("tools").display(), std::env::var("PATH").unwrap());
+        let mut command = Command::new("bash");
+        command.arg("repository/archives").args(arguments).current_dir(&self.folder);
+        command.env("PATH", path).env("ASKED", self.folder.join("asked")).output().unwrap()
+    }
+
+    /// Runs the script, which must succeed, and answers which crates were compiled for it.
+    fn compiled(&self, arguments: &[&str]) -> Vec<String> {
+        let asked = self.folder.join("asked");
+        let _ = fs::remove_file(&asked);
+        let output = self.run(arguments);
+        let said = String::from_utf8_lossy(&output.stderr).into_owned();
+        assert!(output.status.success(), "{said}");
+        let asked = fs::read_to_string(asked).unwrap_or_default();
+        assert_eq!(
+            said.is_empty(),
+            asked.is_empty(),
+            "it tells what is proved, and nothing where nothing is: {said}"
+        );
+        let mut compiled: Vec<String> =
+            asked.lines().filter_map(|line| line.strip_prefix("staticlib ")).map(str::to_string).collect();
+        compiled.sort();
+        compiled
+    }
+
+    /// The texts of the crates that an archive was made from, in the order of the alphabet.
+    fn texts(&self, archive: &str) -> Vec<String> {
+        let output = Command::new("ar").arg("p").arg(self.folder.join(archive)).output().unwrap();
+        let mut texts: Vec<String> =
+            String::from_utf8(output.stdout).unwrap().lines().map(str::to_string).collect();
+        texts.sort();
+        texts
+    }
+
+    /// Whether a file of the stage is there.
+    fn has(&self, name: &str) -> bool {
+        self.folder.join(name).exists()
+    }
+}
+
+const EVERY: [&str; 4] = ["level_one_a", "level_three_a", "level_two_a", "level_two_b"];
+
+#[test]
+fn what_is_up_to_date_is_not_made_again() {
+    let stage = Stage::new("again");
+    assert_eq!(stage.compiled(&["out"]), EVERY);
+    assert_eq!(stage.texts("out/liblevel_two.a"), ["level_two_a", "level_two_b"]);
+    assert!(stage.compiled(&["out"]).is_empty());
+    assert!(stage.compiled(&["elsewhere", "level_two"]).is_empty(), "what was made serves other folders");
+    assert!(stage.has("elsewhere/liblevel_two.a") && !stage.has("elsewhere/liblevel_one.a"));
+    fs::remove_dir_all(stage.folder.join("repository/target")).unwrap();
+    assert!(stage.compiled(&["out"]).is_empty(), "an archive tells itself what it was made from");
+    assert_eq!(stage.compiled(&["new", "level_one"]), ["level_one_a"]);
+}
+
+#[test]
+fn what_has_changed_is_made_again() {
+    let stage = Stage::new("changed");
+    stage.compiled(&["out"]);
+    stage.write("repository/crates/level_two_b/src/lib.rt", "another\n");
+    assert_eq!(stage.compiled(&["out"]), ["level_two_b"]);
+    assert_eq!(stage.texts("out/liblevel_two.a"), ["another", "level_two_a"]);
+    stage.write("repository/crates/below/src/lib.rt", "another\n");
+    assert_eq!(stage.compiled(&["out"]), ["level_one_a", "level_two_a", "level_two_b"]);
+    stage.write("out/liblevel_three.a", "damaged");
+    assert!(stage.compiled(&["out"]).is_empty());
+    assert_eq!(stage.texts("out/liblevel_three.a"), ["level_three_a"]);
+}
+
+#[test]
+fn how_far_it_is_is_told() {
+    let stage = Stage::new("told");
+    let said = String::from_utf8(stage.run(&["out", "level_two"]).stderr).unwrap();
+    let lines: Vec<&str> = said.lines().collect();
+    assert_eq!(
+        lines[..2],
+        [
+            "archives: proving 1 crates, then proving and compiling the 2 of the exports; this takes minutes",
+            "archives: below is proved, 1 of 1",
+        ]
+    );
+    assert_eq!(lines.len(), 4);
+    assert!(lines[3].ends_with(" is proved and compiled, 2 of 2"), "{said}");
+}
+
+#[test]
+fn an_archive_that_is_not_proved_is_not_left() {
+    let stage = Stage::new("left");
+    stage.compiled(&["out"]);
+    stage.write("repository/crates/level_one_a/src/lib.rt", "wrong");
+    let output = stage.run(&["out"]);
+    assert!(!output.status.success());
+    assert!(String::from_utf8_lossy(&output.stderr).contains("archives: level_one_a is not proved"));
+    assert!(!stage.has("out/liblevel_one.a") && stage.has("out/liblevel_two.a"));
+    assert!(!stage.run(&["out", "level_four"]).status.success());
+    assert!(!stage.run(&[]).status.success());
+}
