@@ -1,5 +1,5 @@
-/* The proved calls of the chain arena, for C. `bash archives OUT` writes the archives (x86-64 Linux) into the folder OUT.
- * docs/REFERENCE.md is the manual; the sections named below are its own.
+/* The proved calls of the chain arena, for C and C++ on x86-64 Linux. `bash archives OUT` writes the archives into the folder
+ * OUT. docs/REFERENCE.md is the manual; the sections named below in brackets are its own. Licence: MIT OR Apache-2.0, NOTICE.
  *
  * An arena is lent as five slices, each a pointer and an element count. Slot s has index s - 1 in the columns:
  *   prev, next   the neighbours of a link, 0 for none; the next of a free slot is the freelist pointer
@@ -20,29 +20,75 @@
  * Every call begins with the check and gives its refusal, 1 to 11. A refused call has written nothing, and the further
  * words of its result are 0; only a step answers its state, as it got it.
  *
- * The numbers of the refusals (Numbers):
- *    1  two columns differ in length or are longer than 65,535, or the header has not four words
- *    2  the current generation is 0 or 1
- *    3  the stack length or the link count exceeds the capacity
- *    4  the link count differs from how many links the stack has
- *    5  there is a root but no free slot, or a free slot but no root
- *    6  the freelist names 0 where it must name a slot
- *    7  the freelist names a slot above the stack
- *    8  the freelist names a link
- *    9  the freelist has no end, that is no slot that points at itself
- *   10  the freelist ends and has missed a free slot
- *   11  a link names a neighbour that is above the stack or free, or does not name it in turn
- *   12  a pointer is stale
- *   13  a neighbour is in the way, or one is missing
- *   14  the slice to be filled is too short, or the where-from column has not the columns' length
- *   15  generation 0 or 1 was to be set
- *   16  the command words are no whole commands, or the code of a command is unknown
+ * The numbers (Numbers). A constant CHAIN_ARENA_REFUSED_.. stands below for each refusal, CHAIN_ARENA_DONE for 0 and
+ * CHAIN_ARENA_OVERFLOWED for 100.
+ *  number  name                  of every call:
+ *       0  DONE                  nothing is wrong: done
+ *       1  SHAPE                 two columns differ in length or are longer than 65,535, or the header has not four words
+ *       2  CURRENT_GENERATION    the current generation is 0 or 1
+ *       3  OVER_CAPACITY         the stack length or the link count exceeds the capacity
+ *       4  LINK_COUNT            the link count differs from how many links the stack has
+ *       5  ROOT                  there is a root but no free slot, or a free slot but no root
+ *       6  FREELIST_ZERO         the freelist names 0 where it must name a slot
+ *       7  FREELIST_ABOVE_STACK  the freelist names a slot above the stack
+ *       8  FREELIST_LINK         the freelist names a link
+ *       9  FREELIST_ENDLESS      the freelist has no end, that is no slot that points at itself
+ *      10  FREELIST_INCOMPLETE   the freelist ends and has missed a free slot
+ *      11  BROKEN_LINK           a link names a neighbour that is above the stack or free, or does not name it in turn
+ *  number  name                  of some calls, which are named below the meaning:
+ *      12  STALE_POINTER         a pointer is stale: in its slot there is no link, or one of another generation
+ *                                  get_link, get_link_no_gen, walk_start, connect, break_prev, break_next, exchange_next,
+ *                                  remove, drain; in the answers of run
+ *      13  NEIGHBOR              a neighbour is in the way, or one is missing
+ *                                  connect, break_prev, break_next, exchange_next; in the answers of run
+ *      14  SLICE_LENGTH          the slice to be filled is too short, or the where-from column has not the columns'
+ *                                length
+ *                                  drain, run, compress_with, compress_canonical
+ *      15  GENERATION_TOO_LOW    generation 0 or 1 was to be set
+ *                                  set_generation
+ *      16  COMMAND               the command words are no whole commands, or the code of a command is unknown
+ *                                  run; in the answers of run
+ *     100  OVERFLOWED            nothing is wrong: done, and the current generation overflowed
+ *                                  remove, inc_generation, compress_with, compress_canonical; in the answers of run
  */
 #ifndef CHAIN_ARENA_H
 #define CHAIN_ARENA_H
 
 #include <stddef.h>
 #include <stdint.h>
+
+/* The numbers; the table above tells what each means. */
+#define CHAIN_ARENA_DONE                         0u
+#define CHAIN_ARENA_REFUSED_SHAPE                1u
+#define CHAIN_ARENA_REFUSED_CURRENT_GENERATION   2u
+#define CHAIN_ARENA_REFUSED_OVER_CAPACITY        3u
+#define CHAIN_ARENA_REFUSED_LINK_COUNT           4u
+#define CHAIN_ARENA_REFUSED_ROOT                 5u
+#define CHAIN_ARENA_REFUSED_FREELIST_ZERO        6u
+#define CHAIN_ARENA_REFUSED_FREELIST_ABOVE_STACK 7u
+#define CHAIN_ARENA_REFUSED_FREELIST_LINK        8u
+#define CHAIN_ARENA_REFUSED_FREELIST_ENDLESS     9u
+#define CHAIN_ARENA_REFUSED_FREELIST_INCOMPLETE  10u
+#define CHAIN_ARENA_REFUSED_BROKEN_LINK          11u
+#define CHAIN_ARENA_REFUSED_STALE_POINTER        12u
+#define CHAIN_ARENA_REFUSED_NEIGHBOR             13u
+#define CHAIN_ARENA_REFUSED_SLICE_LENGTH         14u
+#define CHAIN_ARENA_REFUSED_GENERATION_TOO_LOW   15u
+#define CHAIN_ARENA_REFUSED_COMMAND              16u
+#define CHAIN_ARENA_OVERFLOWED                   100u
+
+/* How many words the header, a command, the item of a drain and the item of an order-preserving compression have. */
+#define CHAIN_ARENA_HEADER_WORDS 4u
+#define CHAIN_ARENA_COMMAND_WORDS 5u
+#define CHAIN_ARENA_DRAIN_WORDS 5u
+#define CHAIN_ARENA_COMPRESS_WORDS 4u
+
+/* The codes of commands; chain_arena_run tells what each does. */
+#define CHAIN_ARENA_COMMAND_CONNECT 1u
+#define CHAIN_ARENA_COMMAND_BREAK_PREV 2u
+#define CHAIN_ARENA_COMMAND_BREAK_NEXT 3u
+#define CHAIN_ARENA_COMMAND_EXCHANGE_NEXT 4u
+#define CHAIN_ARENA_COMMAND_REMOVE 5u
 
 #ifdef __cplusplus
 extern "C" {

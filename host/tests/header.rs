@@ -132,3 +132,50 @@ fn the_example_of_the_readme_runs() {
     std::fs::write(&source, example).unwrap();
     assert_eq!(text(Command::new(compiled(&source, "readme")).output().unwrap()), "0: 1 5 3 4 2\n");
 }
+
+/// Every dialect that the header is for: the compiler, and the option for the dialect.
+const DIALECTS: [(&str, &[&str]); 2] =
+    [("cc", &["c89", "c99", "c11", "c17", "c2x"]), ("c++", &["c++98", "c++11", "c++14", "c++17", "c++20"])];
+
+#[test]
+fn the_header_is_good_in_every_dialect_and_its_numbers_differ() {
+    let header = std::fs::read_to_string(package().join("../include/chain_arena.h")).unwrap();
+    let constants = |prefix: &str| {
+        let names = header.lines().filter_map(|line| line.strip_prefix("#define ")?.split(' ').next());
+        let names = names
+            .filter(|name| name.starts_with(prefix) && !name.ends_with("_H") && !name.ends_with("_WORDS"));
+        names.map(|name| format!("    case {name}:\n")).collect::<Vec<_>>()
+    };
+    let codes = constants("CHAIN_ARENA_COMMAND_");
+    let numbers: Vec<String> =
+        constants("CHAIN_ARENA_").into_iter().filter(|name| !codes.contains(name)).collect();
+    assert_eq!((numbers.len(), codes.len()), (18, 5));
+    // Two cases of one value are an error, and so is a value that is no constant.
+    let known = |name: &str, cases: &[String]| {
+        let cases = cases.concat();
+        format!(
+            "int {name}(uint32_t word);\nint {name}(uint32_t word) {{\n    switch (word) {{\n{cases}        return 1;\n    default:\n        return 0;\n    }}\n}}\n"
+        )
+    };
+    let program =
+        format!("#include \"chain_arena.h\"\n{}{}", known("is_number", &numbers), known("is_code", &codes));
+    let mut tried = 0;
+    for (compiler, dialects) in DIALECTS {
+        let source =
+            Path::new(env!("CARGO_TARGET_TMPDIR")).join(format!("dialects.{compiler}").replace("cc", "c"));
+        std::fs::write(&source, &program).unwrap();
+        for dialect in dialects {
+            let mut command = Command::new(compiler);
+            command.args(["-Wall", "-Wextra", "-Wconversion", "-Werror", "-pedantic", "-fsyntax-only"]);
+            command.arg(format!("-std={dialect}")).arg("-I").arg(package().join("../include")).arg(&source);
+            match command.status() {
+                Ok(status) => {
+                    assert!(status.success(), "{compiler} refuses the header in {dialect}");
+                    tried += 1;
+                }
+                Err(error) => eprintln!("SKIPPED: {compiler} {dialect}: {error}"),
+            }
+        }
+    }
+    assert!(tried >= 5, "the C compiler, cc");
+}

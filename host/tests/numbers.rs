@@ -1,0 +1,184 @@
+//! The numbers are told alike wherever they stand: in the README, in REFERENCE, in the C header's comment and constants, and in `RefusalKind`; and each method
+//! of the wrapper tells in `# Errors` the numbers that the table gives to its call.
+
+use std::collections::BTreeSet;
+use std::fs;
+use std::path::Path;
+
+use chain_arena::RefusalKind;
+
+#[path = "../levels.rs"]
+mod levels;
+
+/// A row of the table: number, name as C has it, meaning, and which calls.
+type Row = (u32, String, String, String);
+
+/// A file of the repository.
+fn read(name: &str) -> String {
+    fs::read_to_string(Path::new(env!("CARGO_MANIFEST_DIR")).join("..").join(name)).unwrap()
+}
+
+/// `StalePointer` as `STALE_POINTER`.
+fn shouted(name: &str) -> String {
+    let mut shouted = String::new();
+    for (place, letter) in name.char_indices() {
+        shouted += if place > 0 && letter.is_uppercase() { "_" } else { "" };
+        shouted.extend(letter.to_uppercase());
+    }
+    shouted
+}
+
+/// The table of a document.
+fn told(document: &str) -> Vec<Row> {
+    let text = read(document);
+    let (_, table) =
+        text.split_once("| number | name | what is wrong | which calls |\n|---|---|---|---|\n").unwrap();
+    let rows = table.lines().take_while(|line| line.starts_with('|'));
+    rows.map(|row| {
+        let row = row.replace('`', "");
+        let cells: Vec<&str> = row.trim_matches('|').split('|').map(str::trim).collect();
+        let &[number, name, meaning, calls] = cells.as_slice() else { panic!("{row} has not four cells") };
+        let name = match number {
+            "0" => "DONE".to_string(),
+            "100" => "OVERFLOWED".to_string(),
+            _ => shouted(name),
+        };
+        (number.parse().unwrap(), name, meaning.to_string(), calls.to_string())
+    })
+    .collect()
+}
+
+/// The table of the C header's comment: a meaning goes on at its own column, the calls stand two further to the right.
+fn commented() -> Vec<Row> {
+    let header = read("include/chain_arena.h");
+    let (_, table) = header.split_once(" *  number  name ").unwrap();
+    let mut rows: Vec<Row> = Vec::new();
+    for line in table.split(" */").next().unwrap().lines().skip(1) {
+        let (numbered, text) = line.split_at(32);
+        let mut words = numbered.split_whitespace().skip(1);
+        match (words.next().and_then(|word| word.parse().ok()), rows.last_mut()) {
+            (Some(number), _) => {
+                rows.push((
+                    number,
+                    words.next().unwrap().to_string(),
+                    text.trim().to_string(),
+                    String::new(),
+                ));
+            }
+            (None, _) if numbered.contains("name") => {}
+            (None, Some(row)) => {
+                let part = if text.starts_with("    ") { &mut row.3 } else { &mut row.2 };
+                *part += if part.is_empty() { "" } else { " " };
+                *part += text.trim();
+            }
+            (None, None) => panic!("{line} is no row"),
+        }
+    }
+    rows
+}
+
+/// The constants of the C header that begin with a prefix: number and name.
+fn constants(prefix: &str) -> Vec<(u32, String)> {
+    let header = read("include/chain_arena.h");
+    let defined = header.lines().filter_map(|line| line.strip_prefix("#define ")?.strip_prefix(prefix));
+    let pairs = defined.filter_map(|rest| rest.split_once(' '));
+    pairs
+        .map(|(name, value)| (value.trim().trim_end_matches('u').parse().unwrap(), name.to_string()))
+        .collect()
+}
+
+#[test]
+fn the_table_is_the_same_everywhere() {
+    let table = told("docs/REFERENCE.md");
+    assert_eq!(told("README.md"), table);
+    let mut commented = commented();
+    for row in commented.iter_mut().filter(|row| row.0 <= 11) {
+        assert_eq!(
+            std::mem::replace(&mut row.3, "all".to_string()),
+            "",
+            "{} is a number of every call",
+            row.0
+        );
+    }
+    assert_eq!(commented, table);
+}
+
+#[test]
+fn each_refusal_has_its_kind_and_its_constant() {
+    let refusals: Vec<Row> =
+        told("docs/REFERENCE.md").into_iter().filter(|(number, ..)| ![0, 100].contains(number)).collect();
+    let kinds =
+        RefusalKind::ALL.iter().map(|kind| (*kind as u32, shouted(&format!("{kind:?}")), kind.to_string()));
+    assert!(
+        refusals.iter().map(|(number, name, meaning, _)| (*number, name.clone(), meaning.clone())).eq(kinds)
+    );
+    assert!(
+        refusals.into_iter().map(|(number, name, ..)| (number, name)).eq(constants("CHAIN_ARENA_REFUSED_"))
+    );
+    let done: Vec<(u32, String)> =
+        constants("CHAIN_ARENA_").into_iter().filter(|(_, name)| !name.contains('_')).collect();
+    assert_eq!(done, [(0, "DONE".to_string()), (100, "OVERFLOWED".to_string())]);
+}
+
+#[cfg(feature = "level-two")]
+#[test]
+fn the_codes_and_word_counts_are_those_of_the_wrapper() {
+    use chain_arena::{Command, Header, Ptr};
+    let p = Ptr { slot: 1, generation: 2 };
+    let commands = [
+        Command::Connect(p, p),
+        Command::BreakPrev(p),
+        Command::BreakNext(p),
+        Command::ExchangeNext(p, p),
+        Command::Remove(p),
+    ];
+    let name = |command: &Command| shouted(format!("{command:?}").split('(').next().unwrap());
+    let codes = commands.iter().map(|command| (command.words()[0], name(command)));
+    let (words, constants): (Vec<_>, Vec<_>) =
+        constants("CHAIN_ARENA_COMMAND_").into_iter().partition(|(_, name)| name == "WORDS");
+    assert!(constants.into_iter().eq(codes));
+    assert_eq!(words, [(Command::WORDS as u32, "WORDS".to_string())]);
+    assert_eq!(self::constants("CHAIN_ARENA_HEADER_"), [(Header::WORDS as u32, "WORDS".to_string())]);
+}
+
+/// The numbers that are told of a method's own refusals, behind those of the check.
+fn documented(source: &str, method: &str) -> BTreeSet<u32> {
+    let start = source.find(&format!("    pub fn {method}")).unwrap_or_else(|| panic!("no method {method}"));
+    let lines = source[..start]
+        .lines()
+        .rev()
+        .take_while(|line| line.trim_start().starts_with("//") || line.contains("#["));
+    let errors: Vec<&str> = lines.take_while(|line| !line.contains("# Errors")).collect();
+    let text = errors.into_iter().rev().map(|line| line.trim().trim_start_matches("///")).collect::<String>();
+    let own = text.split("What is refused of a command").next().unwrap();
+    let own =
+        own.split_once("1 to 11").unwrap_or_else(|| panic!("{method} does not tell the check's numbers")).1;
+    own.split(|c: char| !c.is_ascii_digit())
+        .filter_map(|word| word.parse().ok())
+        .filter(|&n| n > 11)
+        .collect()
+}
+
+#[test]
+fn each_method_tells_the_numbers_of_its_call() {
+    let own: Vec<Row> =
+        told("docs/REFERENCE.md").into_iter().filter(|row| (12..100).contains(&row.0)).collect();
+    for level in levels::LEVELS {
+        let walk = if level.name == "level_one" { read("host/src/walk.rs") } else { String::new() };
+        let source = read(&format!("host/src/{}.rs", level.name)) + &walk;
+        for call in level.exports.iter().map(|export| export.trim_start_matches("chain_arena_")) {
+            let numbers: BTreeSet<u32> = own
+                .iter()
+                .filter(|(.., calls)| calls.split(';').next().unwrap().split(", ").any(|name| name == call))
+                .map(|(number, ..)| *number)
+                .collect();
+            let method = match call {
+                "walk_step" => "step(",
+                "run" => "run_words(",
+                "drain" | "compress_with" | "compress_canonical" => &format!("{call}<"),
+                _ => &format!("{call}("),
+            };
+            assert_eq!(documented(&source, method), numbers, "{call}");
+        }
+    }
+}
