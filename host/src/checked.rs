@@ -76,30 +76,35 @@ impl ArenaMut<'_> {
 impl<'a> Checked<'a> {
     /// The arena that was checked.
     #[must_use]
+    #[inline]
     pub fn arena(&self) -> Arena<'a> {
         self.arena
     }
 
     /// The header's words by name.
     #[must_use]
+    #[inline]
     pub fn header(&self) -> Header {
         self.header
     }
 
     /// How many links there are.
     #[must_use]
+    #[inline]
     pub fn len(&self) -> usize {
         self.header.link_count as usize
     }
 
     /// Whether there is no link.
     #[must_use]
+    #[inline]
     pub fn is_empty(&self) -> bool {
         self.len() == 0
     }
 
     /// The pointer to the link in a slot, none if there is no link.
     #[must_use]
+    #[inline]
     pub fn ptr(&self, slot: Slot) -> Option<Ptr> {
         let generation = word(self.arena.generation, slot);
         let on_stack = u32::from(slot) <= self.header.stack_length;
@@ -108,6 +113,7 @@ impl<'a> Checked<'a> {
 
     /// Whether `p` names a link, that is whether it is not stale.
     #[must_use]
+    #[inline]
     pub fn contains(&self, p: Ptr) -> bool {
         self.ptr(p.slot) == Some(p)
     }
@@ -117,6 +123,7 @@ impl<'a> Checked<'a> {
     /// # Errors
     ///
     /// 12 if `p` is stale.
+    #[inline]
     pub fn link(&self, p: Ptr) -> Result<Link, Refusal> {
         self.good(p).map(|slot| self.link_at(slot))
     }
@@ -126,6 +133,7 @@ impl<'a> Checked<'a> {
     /// # Errors
     ///
     /// 12 if `p` is stale.
+    #[inline]
     pub fn link_no_gen(&self, p: Ptr) -> Result<LinkNoGen, Refusal> {
         let Link { prev, next, payload } = self.link(p)?;
         Ok(LinkNoGen { prev: prev.map(|p| p.slot), next: next.map(|p| p.slot), payload })
@@ -136,6 +144,7 @@ impl<'a> Checked<'a> {
     /// # Errors
     ///
     /// 12 if `p` is stale.
+    #[inline]
     pub fn payload(&self, p: Ptr) -> Result<u32, Refusal> {
         self.good(p).map(|slot| word(self.arena.payload, slot))
     }
@@ -145,6 +154,7 @@ impl<'a> Checked<'a> {
     /// # Errors
     ///
     /// 12 if `p` is stale.
+    #[inline]
     pub fn prev(&self, p: Ptr) -> Result<Option<Ptr>, Refusal> {
         self.good(p).map(|slot| self.ptr(word(self.arena.prev, slot)))
     }
@@ -154,12 +164,14 @@ impl<'a> Checked<'a> {
     /// # Errors
     ///
     /// 12 if `p` is stale.
+    #[inline]
     pub fn next(&self, p: Ptr) -> Result<Option<Ptr>, Refusal> {
         self.good(p).map(|slot| self.ptr(word(self.arena.next, slot)))
     }
 
     /// Whether the next of `p_prev` is `p_next`; false if one of them is stale.
     #[must_use]
+    #[inline]
     pub fn are_neighbors(&self, p_prev: Ptr, p_next: Ptr) -> bool {
         self.contains(p_next) && self.next(p_prev) == Ok(Some(p_next))
     }
@@ -170,6 +182,7 @@ impl<'a> Checked<'a> {
     /// # Errors
     ///
     /// 12 if `p` is stale.
+    #[inline]
     pub fn chain(&self, p: Ptr) -> Result<Chain<'a>, Refusal> {
         self.good(p).map(|slot| Chain::new(*self, slot))
     }
@@ -205,20 +218,25 @@ impl<'a> Checked<'a> {
     }
 
     /// The slot of `p`, which must not be stale.
+    #[inline]
     fn good(&self, p: Ptr) -> Result<Slot, Refusal> {
         if self.contains(p) { Ok(p.slot) } else { Err(Refusal::of(RefusalKind::StalePointer)) }
     }
 
-    /// The link in a slot that has one.
+    /// The link in a slot that has one. Its neighbours are links too, since the arena has passed the check.
+    #[inline]
     fn link_at(&self, slot: Slot) -> Link {
+        let neighbour =
+            |slot| (slot != 0).then(|| Ptr { slot, generation: word(self.arena.generation, slot) });
         Link {
-            prev: self.ptr(word(self.arena.prev, slot)),
-            next: self.ptr(word(self.arena.next, slot)),
+            prev: neighbour(word(self.arena.prev, slot)),
+            next: neighbour(word(self.arena.next, slot)),
             payload: word(self.arena.payload, slot),
         }
     }
 
     /// The link in a slot that has one, with its pointer.
+    #[inline]
     fn item(&self, slot: Slot) -> (Ptr, Link) {
         (Ptr { slot, generation: word(self.arena.generation, slot) }, self.link_at(slot))
     }
@@ -236,6 +254,7 @@ pub struct Chain<'a> {
 
 impl<'a> Chain<'a> {
     /// The chain of a link.
+    #[inline]
     fn new(checked: Checked<'a>, start: Slot) -> Self {
         Self { checked, start, position: start, along_next: true }
     }
@@ -254,6 +273,7 @@ impl<'a> Chain<'a> {
     }
 
     /// The slot after the position: at the end of an open chain the start's prev, at that of a closed chain none.
+    #[inline]
     fn onward(&mut self) -> Slot {
         let Arena { prev, next, .. } = self.checked.arena;
         if !self.along_next {
@@ -273,6 +293,7 @@ impl<'a> Chain<'a> {
 impl Iterator for Chain<'_> {
     type Item = (Ptr, Link);
 
+    #[inline]
     fn next(&mut self) -> Option<(Ptr, Link)> {
         let slot = self.position;
         if slot == 0 {
@@ -297,6 +318,7 @@ pub struct Links<'a> {
 
 impl Links<'_> {
     /// The slot of the next link.
+    #[inline]
     fn next_slot(&mut self) -> Option<Slot> {
         self.left = self.left.checked_sub(1)?;
         loop {
@@ -311,6 +333,7 @@ impl Links<'_> {
 impl Iterator for Links<'_> {
     type Item = (Ptr, Link);
 
+    #[inline]
     fn next(&mut self) -> Option<(Ptr, Link)> {
         self.next_slot().map(|slot| self.checked.item(slot))
     }
@@ -390,5 +413,6 @@ impl FusedIterator for Chains<'_> {}
 
 /// The word of a column at a slot, 0 where it has none.
 fn word<T: Copy + Default>(column: &[T], slot: Slot) -> T {
-    usize::from(slot).checked_sub(1).and_then(|place| column.get(place)).copied().unwrap_or_default()
+    // Slot 0 comes to the largest index there is, at which no column has a word.
+    column.get(usize::from(slot).wrapping_sub(1)).copied().unwrap_or_default()
 }

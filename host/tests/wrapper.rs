@@ -1,13 +1,17 @@
 //! The safe wrapper: answers, refusals by name and in words, the walk, the checked view, edits and compressions.
 
-use chain_arena::{Done, OwnedArena, Ptr, RefusalKind};
+#[cfg(any(feature = "level-one", feature = "level-two", feature = "level-three"))]
+use chain_arena::Ptr;
+use chain_arena::{Done, OwnedArena, RefusalKind};
 
 /// The pointer to a slot at generation 5.
+#[cfg(any(feature = "level-one", feature = "level-two", feature = "level-three"))]
 fn p(slot: u16) -> Ptr {
     Ptr { slot, generation: 5 }
 }
 
 /// A pointer that names no link of the sample.
+#[cfg(any(feature = "level-one", feature = "level-two"))]
 const STALE: Ptr = Ptr { slot: 1, generation: 4 };
 
 /// 1 -> 5, the closed 2 -> 4 -> (2), and the free slot 3.

@@ -220,6 +220,12 @@ impl CrateArena {
         Reply::new(0, &[walk.start, walk.position, walk.direction, walk.left])
     }
 
+    /// The sum of the slots and payloads along the chain of the pointer, by the crate's own iterator.
+    pub fn sum_chain(&self, p: Ptr) -> Option<u64> {
+        let links = self.chain.iter_chain(held(p)?)?;
+        Some(links.map(|(p, link)| u64::from(p.inx().get()) + u64::from(link.t)).sum())
+    }
+
     /// One step of an advancer that is put into the state, or none where it cannot be.
     fn walk_step(&self, walk: Walk) -> Option<Reply> {
         let mut advancer = advancer_of(walk)?;

@@ -13,7 +13,7 @@ use std::time::{Duration, Instant};
 
 use oracle::compare::crate_text_found;
 use oracle::random::{self, Random, Style};
-use oracle::{Arena, Call, LIMIT, Reading, calls, exports, model};
+use oracle::{Arena, Call, LIMIT, Ptr, Reading, calls, exports, model};
 
 /// How many times each side makes its call at least, and how often where one call takes long.
 const ROUNDS: usize = 31;
@@ -26,8 +26,9 @@ fn main() {
     if !crate_text_found() {
         println!("The crate's files are not at hand: the live comparison was skipped.");
     }
-    let sections: [(&str, usize, fn()); 6] = [
+    let sections: [(&str, usize, fn()); 7] = [
         ("check", 1, check_section),
+        ("read", 1, read_section),
         ("run", 2, run_section),
         ("drain", 2, drain_section),
         ("canonical", 3, canonical_section),
@@ -56,6 +57,32 @@ fn check_section() {
             row(slots, kind, slots, &measure(ROUNDS, vec![Some(ours), crate_check(&arena)]));
         }
     }
+}
+
+/// Reading one chain, pointer and payload of each link, through the wrapper's view of a checked arena, the one check in its
+/// time; and through the crate's own iterator, with its check before it and without.
+fn read_section() {
+    println!(
+        "read: all links of one chain, nanoseconds a link; the crate with its check before it, and without"
+    );
+    for slots in [2_048, LIMIT] {
+        for (kind, scattered) in [("one chain, in order", false), ("one chain, scattered", true)] {
+            let style = Style { free: 0, longest: slots, even: true, scattered, closed: 0 };
+            let arena = alike(random::whole(&mut Random::new(3), slots, slots, style));
+            let p = arena.ptr(1);
+            let ours: Side = Box::new(again(|| _ = black_box(sum_chain(black_box(&arena), p))));
+            let expected = sum_chain(&arena, p);
+            let theirs = |check| crate_sum(&arena, p, check, expected);
+            row(slots, kind, slots, &measure(ROUNDS, vec![Some(ours), theirs(true), theirs(false)]));
+        }
+    }
+}
+
+/// The sum of the slots and payloads along the chain of a pointer.
+fn sum_chain(arena: &Arena, p: Ptr) -> u64 {
+    let checked = arena.as_arena().checked().expect("an arena that passes");
+    let links = checked.chain(p).expect("a link of the arena");
+    links.map(|(p, link)| u64::from(p.slot) + u64::from(link.payload)).sum()
 }
 
 /// 100,000 mixed edits on 2,048 links: one run, its one check in its time, and for each edit the crate's own call, without
@@ -305,6 +332,18 @@ fn crate_check(arena: &Arena) -> Option<Side<'_>> {
     Some(Box::new(again(move || _ = black_box(black_box(&held).check_invariants()))))
 }
 
+/// The crate's side of reading a chain, whose sum is known.
+#[cfg(crate_text)]
+fn crate_sum(arena: &Arena, p: Ptr, check: bool, expected: u64) -> Option<Side<'_>> {
+    let held = Crate::hold(arena)?;
+    assert_eq!(held.sum_chain(p), Some(expected));
+    Some(Box::new(again(move || {
+        let held = black_box(&held);
+        assert!(!check || held.check_invariants().is_ok());
+        _ = black_box(held.sum_chain(p));
+    })))
+}
+
 /// The crate's side of a call that changes the arena.
 #[cfg(crate_text)]
 fn crate_side<'a>(arena: &'a Arena, call: impl Fn(&mut Crate) + 'a) -> Option<Side<'a>> {
@@ -330,7 +369,7 @@ impl Crate {
         Ok(())
     }
 
-    fn drain_chain(&mut self, _: oracle::Ptr, _: &mut [u32]) {}
+    fn drain_chain(&mut self, _: Ptr, _: &mut [u32]) {}
 
     fn compress_with(&mut self, _: bool, _: &mut [u32]) {}
 
@@ -339,6 +378,11 @@ impl Crate {
 
 #[cfg(not(crate_text))]
 fn crate_check(_: &Arena) -> Option<Side<'_>> {
+    None
+}
+
+#[cfg(not(crate_text))]
+fn crate_sum(_: &Arena, _: Ptr, _: bool, _: u64) -> Option<Side<'_>> {
     None
 }
 
