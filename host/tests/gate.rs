@@ -82,20 +82,33 @@ impl Stage {
 }
 
 /// The steps in their order, each with whether it links the archives that the gate made.
-const STEPS: [(&str, bool); 6] = [
-    ("rt fmt --check", false),
-    ("rt ci", false),
-    ("archives build/archives", false),
-    ("cargo test --workspace --offline --quiet", true),
-    ("cargo run --offline --quiet -p oracle --bin compare", true),
-    ("cargo run --offline --quiet", false),
-];
+fn all_steps() -> Vec<(String, bool)> {
+    let alone = |levels: &str| {
+        let words = format!(
+            "cargo test -p chain_arena --profile quick --no-default-features --features {levels} --offline --quiet"
+        );
+        ["--test wrapper --test exports --test header --test numbers", "--doc"]
+            .map(|tests| format!("{words} {tests}"))
+    };
+    let proving =
+        ["rt fmt --check", "rt ci", "archives build/archives"].map(|words| (words.to_string(), false));
+    let with_all = "cargo test --workspace --offline --quiet".to_string();
+    let linking = [with_all]
+        .into_iter()
+        .chain(["", "level-one", "level-two", "level-three"].into_iter().flat_map(alone));
+    let last = [
+        ("cargo test -p checker --profile quick --no-default-features --offline --quiet".to_string(), true),
+        ("cargo run --offline --quiet -p oracle --bin compare".to_string(), true),
+        ("cargo run --offline --quiet".to_string(), false),
+    ];
+    proving.into_iter().chain(linking.map(|words| (words, true))).chain(last).collect()
+}
 
 /// What the first steps, so many, write down.
 fn first(stage: &Stage, count: usize) -> Vec<String> {
     let made = fs::canonicalize(&stage.folder).unwrap().join("repository/build/archives");
     let with = |linked: bool| if linked { format!(" with {}", made.display()) } else { String::new() };
-    STEPS[..count].iter().map(|(words, linked)| format!("{words}{}", with(*linked))).collect()
+    all_steps()[..count].iter().map(|(words, linked)| format!("{words}{}", with(*linked))).collect()
 }
 
 #[test]
@@ -104,12 +117,12 @@ fn every_step_is_made_and_the_verdict_comes_last() {
     let (passed, last, steps) = stage.run();
     assert!(passed);
     assert_eq!(last, VERDICT);
-    assert_eq!(steps, first(&stage, STEPS.len()));
+    assert_eq!(steps, first(&stage, all_steps().len()));
 }
 
 #[test]
 fn a_step_that_fails_ends_the_gate_with_another_line() {
-    for (k, (words, _)) in STEPS.iter().enumerate() {
+    for (k, (words, _)) in all_steps().iter().enumerate() {
         let stage = Stage::new(&format!("step_{k}"), &format!("\"{words}\""), VERDICT);
         let (passed, last, steps) = stage.run();
         assert!(!passed, "{words}");
