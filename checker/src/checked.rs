@@ -1,0 +1,106 @@
+//! An arena with what the check says of it.
+
+use chain_arena::{OwnedArena, Refusal};
+
+use crate::Shown;
+use crate::by_slot::BySlot;
+use crate::explain::{Why, explain};
+use crate::files::Source;
+use crate::format;
+use crate::panel::Panel;
+use crate::picture::Picture;
+
+/// An arena with what the check says of it, and the slot whose chain alone is shown, if not all is.
+pub struct Checked {
+    pub name: String,
+    pub arena: OwnedArena,
+    pub refused: Option<(Refusal, Why)>,
+    pub around: Option<u32>,
+}
+
+impl Checked {
+    /// Checks the arena of a text; what is wrong with the text is told with its place.
+    pub fn parse(name: String, text: &[u8]) -> Result<Self, String> {
+        let arena = format::parse(text).map_err(|error| format!("{name}:{error}"))?;
+        let refused = arena.as_arena().check().err().map(|refusal| (refusal, explain(&arena, refusal)));
+        Ok(Self { name, arena, refused, around: None })
+    }
+
+    /// Checks the arena of a file.
+    pub fn read(source: &Source) -> Result<Self, String> {
+        Self::parse(source.name(), &source.read()?)
+    }
+
+    /// Shows only the chain of a slot, if one is given, which must be on the stack.
+    pub fn around(self, around: Option<u32>) -> Result<Self, String> {
+        match around.filter(|slot| !self.arena.stack().contains(slot)) {
+            Some(slot) => Err(format!(
+                "{}: slot {slot} is not on the stack, which has {} slots",
+                self.name,
+                self.arena.stack().count()
+            )),
+            None => Ok(Self { around, ..self }),
+        }
+    }
+
+    /// The rows that are shown as text: all, or those with the chain of a slot.
+    pub fn rows(&self) -> String {
+        rows(&self.arena, self.around)
+    }
+
+    /// The rule that fails and why, or the chains.
+    pub fn text(&self) -> String {
+        match (&self.refused, self.around) {
+            (Some((refusal, why)), None) => format!("{}: {refusal}\n{}", self.name, why.text()),
+            (Some((refusal, why)), Some(_)) => {
+                format!("{}: {refusal}\n{}{}", self.name, why.text(), self.rows())
+            }
+            (None, _) => format!("{}: passes the check: {}\n{}", self.name, counts(&self.arena), self.rows()),
+        }
+    }
+
+    /// The arena to draw.
+    pub fn panel(&self) -> Panel {
+        let refused = self.refused.as_ref();
+        Panel {
+            title: self.name.clone(),
+            sentence: refused
+                .map(|(refusal, why)| format!("refused with {}: {}", refusal.number(), why.summary())),
+            arena: self.arena.clone(),
+            faults: refused.map(|(_, why)| why.faults.clone()).unwrap_or_default(),
+            where_from: Vec::new(),
+            around: self.around,
+        }
+    }
+
+    /// Says what the check says.
+    pub fn show(&self) -> Shown {
+        Shown { text: self.text(), panels: vec![self.panel()], passes: self.refused.is_none() }
+    }
+}
+
+/// The rows of an arena as text: all, or those with the chain of a slot, which is marked.
+pub fn rows(arena: &OwnedArena, around: Option<u32>) -> String {
+    let picture = Picture::of(arena);
+    match around {
+        Some(slot) => picture.around(slot).text(around),
+        None => picture.text(None),
+    }
+}
+
+/// What a whole arena holds, in numbers.
+fn counts(arena: &OwnedArena) -> String {
+    let free = arena.stack().filter(|&slot| arena.is_free(slot)).count();
+    format!("{}, {free} free slots, room for {} slots", chain_counts(arena), arena.capacity())
+}
+
+/// How many links and chains a whole arena holds.
+pub fn chain_counts(arena: &OwnedArena) -> String {
+    let picture = Picture::of(arena);
+    format!(
+        "{} links on {} open and {} closed chains",
+        arena.header().link_count,
+        picture.open_chains(),
+        picture.closed_chains(),
+    )
+}

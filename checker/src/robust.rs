@@ -1,0 +1,1 @@
+//! Whatever text there is, nothing panics.
