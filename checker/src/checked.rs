@@ -19,11 +19,16 @@ pub struct Checked {
 }
 
 impl Checked {
+    /// Checks an arena.
+    pub fn new(name: String, arena: OwnedArena) -> Self {
+        let refused = arena.as_arena().check().err().map(|refusal| (refusal, explain(&arena, refusal)));
+        Self { name, arena, refused, around: None }
+    }
+
     /// Checks the arena of a text; what is wrong with the text is told with its place.
     pub fn parse(name: String, text: &[u8]) -> Result<Self, String> {
         let arena = format::parse(text).map_err(|error| format!("{name}:{error}"))?;
-        let refused = arena.as_arena().check().err().map(|refusal| (refusal, explain(&arena, refusal)));
-        Ok(Self { name, arena, refused, around: None })
+        Ok(Self::new(name, arena))
     }
 
     /// Checks the arena of a file.
@@ -43,20 +48,20 @@ impl Checked {
         }
     }
 
-    /// The rows that are shown as text: all, or those with the chain of a slot.
-    pub fn rows(&self) -> String {
-        rows(&self.arena, self.around)
+    /// The rule that fails and why, or the chains. Where the chain of a slot is asked for, it is shown in either case.
+    pub fn text(&self) -> String {
+        match &self.refused {
+            Some((refusal, why)) => {
+                let rows = self.around.map(|_| self.rows()).unwrap_or_default();
+                format!("{}: {refusal}\n{}{rows}", self.name, why.text())
+            }
+            None => format!("{}: passes the check: {}\n{}", self.name, counts(&self.arena), self.rows()),
+        }
     }
 
-    /// The rule that fails and why, or the chains.
-    pub fn text(&self) -> String {
-        match (&self.refused, self.around) {
-            (Some((refusal, why)), None) => format!("{}: {refusal}\n{}", self.name, why.text()),
-            (Some((refusal, why)), Some(_)) => {
-                format!("{}: {refusal}\n{}{}", self.name, why.text(), self.rows())
-            }
-            (None, _) => format!("{}: passes the check: {}\n{}", self.name, counts(&self.arena), self.rows()),
-        }
+    /// The rows that are shown.
+    pub fn rows(&self) -> String {
+        rows(&self.arena, self.around)
     }
 
     /// The arena to draw.

@@ -199,3 +199,193 @@ fn arrows<T: Display>(words: impl Iterator<Item = T>, count: usize) -> String {
     let more = if count > LINKS { format!(" -> .. {} more", count - LINKS) } else { String::new() };
     shown.join(" -> ") + &more
 }
+
+#[cfg(test)]
+mod tests {
+    use super::*;
+    use crate::random::{Payloads, Random, in_order};
+
+    /// Whether two chains of payloads are equal, closed ones up to rotation.
+    fn equal((closed, word): &Payloads, (other_closed, other): &Payloads) -> bool {
+        let rotated = |by: usize| word.iter().cycle().skip(by).take(word.len()).eq(other);
+        let rotations = 0..if *closed { word.len() } else { 1 };
+        closed == other_closed && word.len() == other.len() && rotations.into_iter().any(rotated)
+    }
+
+    /// How many links of each side are on chains that find no partner, tried chain by chain.
+    fn left_over(a: &[Payloads], b: &[Payloads]) -> [usize; 2] {
+        let (mut only_a, mut only_b) = (0, b.to_vec());
+        for chain in a {
+            match only_b.iter().position(|other| equal(chain, other)) {
+                Some(place) => drop(only_b.remove(place)),
+                None => only_a += chain.1.len(),
+            }
+        }
+        [only_a, only_b.iter().map(|(_, payloads)| payloads.len()).sum()]
+    }
+
+    /// Compares two arenas that hold given chains, with what it is expected to say of them.
+    fn try_both(a: (&[Payloads], OwnedArena), b: (&[Payloads], OwnedArena)) -> Shown {
+        let [checked_a, checked_b] = [a.1, b.1].map(|arena| Checked::new("an arena".to_string(), arena));
+        let shown = compare(&checked_a, &checked_b).unwrap();
+        let left = left_over(a.0, b.0);
+        assert_eq!(
+            [shown.panels[0].faults.len(), shown.panels[1].faults.len()],
+            left,
+            "{a:?} {b:?}",
+            a = a.0,
+            b = b.0
+        );
+        assert_eq!(shown.passes, left == [0, 0]);
+        shown
+    }
+
+    /// Every list of chains of so many links at most, in order, with payloads 1 and 2.
+    fn lists(links: usize) -> Vec<Vec<Payloads>> {
+        let mut lists = vec![Vec::new()];
+        for first in 1..=links {
+            for rest in self::lists(links - first) {
+                for k in 0..2 << first {
+                    let payloads = (1..=first).map(|place| 1 + (k >> place & 1)).collect();
+                    let mut list = vec![(k & 1 == 0, payloads)];
+                    list.extend(rest.iter().cloned());
+                    lists.push(list);
+                }
+            }
+        }
+        lists
+    }
+
+    #[test]
+    fn small_arenas_are_compared_as_by_hand() {
+        let lists = lists(3);
+        for (a, b) in lists.iter().flat_map(|a| lists.iter().map(move |b| (a, b))) {
+            try_both((a, in_order(a)), (b, in_order(b)));
+        }
+    }
+
+    #[test]
+    fn random_arenas_are_compared_as_by_hand() {
+        let mut random = Random::new(1);
+        for round in 0..2000 {
+            let (count, longest, payloads) = (1 + random.below(6), 1 + round % 5, 1 + random.below(3));
+            let a = random.chains(count, longest, payloads);
+            let b = random.chains(count, longest, payloads);
+            let (arena_a, arena_b) = (random.arena(&a, round % 3), random.arena(&b, round % 4));
+            try_both((&a, arena_a), (&b, arena_b));
+        }
+    }
+
+    /// The chain with its links in the opposite order.
+    fn reversed((closed, payloads): &Payloads) -> Payloads {
+        (*closed, payloads.iter().rev().copied().collect())
+    }
+
+    #[test]
+    fn renamed_arenas_hold_the_same_and_changed_ones_do_not() {
+        let mut random = Random::new(2);
+        let mut in_another_order = 0;
+        for _ in 0..500 {
+            let mut chains = random.chains(5, 6, 1000);
+            chains.push(chains[0].clone());
+            let arena = random.arena(&chains, 2);
+            let mut again = chains.clone();
+            random.shuffle(&mut again);
+            for (closed, payloads) in &mut again {
+                let by = random.below(payloads.len());
+                payloads.rotate_left(if *closed { by } else { 0 });
+            }
+            let renamed = random.arena(&again, 3);
+            let shown = try_both((&chains, arena.clone()), (&again, renamed));
+            assert!(shown.passes);
+            in_another_order += usize::from(shown.text.contains("in another order"));
+            let place = random.below(again.len());
+            let (closed, payloads) = &again[place];
+            let mut other_payload = payloads.clone();
+            other_payload[0] += 1000;
+            let turned = reversed(&again[place]);
+            for changed in [(*closed, other_payload), (!closed, payloads.clone()), turned] {
+                let mut other = again.clone();
+                let same = equal(&changed, &again[place]);
+                other[place] = changed;
+                let renamed = random.arena(&other, 1);
+                let shown = try_both((&chains, arena.clone()), (&other, renamed));
+                assert_eq!(shown.passes, same);
+                assert_eq!(shown.text.contains("  the first of them"), !same, "{}", shown.text);
+            }
+            again.pop();
+            let fewer = random.arena(&again, 1);
+            assert!(!try_both((&chains, arena), (&again, fewer)).passes);
+        }
+        assert!(in_another_order > 0);
+    }
+
+    /// What is said of two arenas with given chains, from the third line on.
+    fn said(a: &[Payloads], b: &[Payloads]) -> String {
+        let shown = try_both((a, in_order(a)), (b, in_order(b)));
+        shown.text.lines().skip(2).map(|line| format!("{line}\n")).collect()
+    }
+
+    #[test]
+    fn the_place_where_chains_part_is_told() {
+        let open = |payloads: &[u32]| (false, payloads.to_vec());
+        let closed = |payloads: &[u32]| (true, payloads.to_vec());
+        for (a, b, part) in [
+            (open(&[1, 2, 3]), open(&[1, 2, 4]), "place 3: payload 3 (slot 3) in A, payload 4 (slot 3) in B"),
+            (open(&[1, 2, 3]), open(&[1, 2]), "place 3: payload 3 (slot 3) in A, the end in B"),
+            (open(&[1, 2]), open(&[1, 2, 3]), "place 3: the end in A, payload 3 (slot 3) in B"),
+            (open(&[1, 2]), closed(&[2, 1]), "place 3: the end in A, the way back to slot 2 in B"),
+            (
+                closed(&[3, 1, 2]),
+                closed(&[2, 4, 1]),
+                "place 3: payload 3 (slot 1) in A, payload 4 (slot 2) in B",
+            ),
+            (
+                closed(&[1, 2, 3]),
+                closed(&[1, 2]),
+                "place 3: payload 3 (slot 3) in A, the way back to slot 1 in B",
+            ),
+        ] {
+            let text = said(&[a], &[b]);
+            assert!(text.contains(&format!("part at {part}\n")), "{part}\n{text}");
+        }
+        let twice = said(&[open(&[1]), open(&[1])], &[open(&[1])]);
+        assert!(twice.contains("\n  A holds the first of them more often than B\n"), "{twice}");
+        let more = said(&[open(&[1])], &[open(&[1]), closed(&[2])]);
+        assert!(more.contains("0 chains are only in A, 1 chain is only in B"), "{more}");
+    }
+
+    #[test]
+    fn long_lists_are_cut() {
+        let chains: Vec<Payloads> = (0..9).map(|k| (false, vec![k; 20])).collect();
+        let text = said(&chains, &[]);
+        assert_eq!(text.matches("  only in A  open ").count(), CHAINS);
+        assert_eq!(text.matches(" -> .. 12 more").count(), 2 * CHAINS);
+        assert!(text.contains("\n  only in A  and 4 more\n"), "{text}");
+    }
+
+    #[test]
+    fn the_largest_arenas_are_compared_quickly() {
+        let mut random = Random::new(4);
+        let word = |count: u32, payload: fn(u32) -> u32| (0..count).map(payload).collect::<Vec<u32>>();
+        let mut other = word(65_535, |_| 1);
+        other[40_000] = 2;
+        let shapes: [Vec<Payloads>; 6] = [
+            vec![(true, word(65_535, |_| 1))],
+            vec![(true, other)],
+            vec![(false, word(65_535, |k| k % 2))],
+            (0..65_535).map(|k| (k % 2 == 0, vec![k % 7])).collect(),
+            (0..255).map(|k| (k % 2 == 0, word(257, |_| 3))).collect(),
+            (0..255)
+                .map(|k| (true, word(257, |k| k * k % 11).into_iter().chain([k]).collect()))
+                .take(253)
+                .collect(),
+        ];
+        let arenas: Vec<Checked> =
+            shapes.iter().map(|chains| Checked::new(String::new(), random.arena(chains, 0))).collect();
+        for (a, b) in arenas.iter().zip(arenas.iter().cycle().skip(1)) {
+            assert!(compare(a, a).unwrap().passes);
+            assert!(!compare(a, b).unwrap().passes);
+        }
+    }
+}

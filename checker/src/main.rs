@@ -19,6 +19,8 @@ mod panel;
 mod picture;
 mod quote;
 #[cfg(test)]
+mod random;
+#[cfg(test)]
 mod robust;
 mod svg;
 
