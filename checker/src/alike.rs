@@ -14,12 +14,14 @@ pub struct Alike {
     pub shared: usize,
 }
 
-/// The first of the other chains that shares the longest beginning with a chain. The time is in proportion to the links of
-/// all, but for a logarithm.
+/// The one of the other chains that shares the longest beginning with a chain; of several, one of the same kind and length if
+/// there is one, else the first. The time is in proportion to the links of all, but for a logarithm.
 pub fn most_alike<'a>(chain: &Chain<'_>, others: impl Iterator<Item = (usize, Chain<'a>)>) -> Option<Alike> {
     let reader = Reader::of(chain);
-    let alike = others.map(|(place, other)| Alike { place, ..reader.read(&other) });
-    alike.reduce(|best, next| if next.shared > best.shared { next } else { best })
+    let fits = |other: &Chain<'_>| other.closed == chain.closed && other.len() == chain.len();
+    let alike = others.map(|(place, other)| (Alike { place, ..reader.read(&other) }, fits(&other)));
+    let rank = |(alike, fits): &(Alike, bool)| (alike.shared, *fits);
+    alike.reduce(|best, next| if rank(&next) > rank(&best) { next } else { best }).map(|(alike, _)| alike)
 }
 
 /// What is known of a chain before others are compared with it.

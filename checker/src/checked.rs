@@ -40,7 +40,7 @@ impl Checked {
     pub fn around(self, around: Option<u32>) -> Result<Self, String> {
         match around.filter(|slot| !self.arena.stack().contains(slot)) {
             Some(slot) => Err(format!(
-                "{}: slot {slot} is not on the stack, which has {} slots",
+                "{}: slot {slot} is not on the stack, whose length is {}",
                 self.name,
                 self.arena.stack().count()
             )),

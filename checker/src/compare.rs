@@ -58,7 +58,8 @@ impl<'a> Side<'a> {
         };
         let payloads = arrows(chain.payloads.iter(), chain.len());
         let slots = arrows((0..chain.len()).map(|place| self.old_slot(chain, place)), chain.len());
-        format!("  only in {}  {name:<8}{payloads}  (slots {slots})\n", self.label)
+        let noun = if chain.len() == 1 { "slot" } else { "slots" };
+        format!("  only in {}  {name:<8}{payloads}  ({noun} {slots})\n", self.label)
     }
 
     /// The first few of the chains without a partner, and how many more there are.
@@ -146,10 +147,11 @@ fn parting(a: Sided<'_>, b: Sided<'_>) -> String {
     let other = &others[alike.place];
     let Alike { from, other_from, shared, .. } = alike;
     if shared == chain.len() && shared == other.len() && chain.closed == other.closed {
-        return format!("  {} holds the first of them more often than {}\n", side.label, other_side.label);
+        return format!("  {} holds the first of these more often than {}\n", side.label, other_side.label);
     }
     format!(
-        "  the first of them and the chain of {} that begins most like it part at place {}: {} in {}, {} in {}\n",
+        "  the first only in {} and the chain of {} that begins most like it part at place {}: {} in {}, {} in {}\n",
+        side.label,
         other_side.label,
         shared + 1,
         at(side, chain, from, shared),
@@ -311,7 +313,7 @@ mod tests {
                 let renamed = random.arena(&other, 1);
                 let shown = try_both((&chains, arena.clone()), (&other, renamed));
                 assert_eq!(shown.passes, same);
-                assert_eq!(shown.text.contains("  the first of them"), !same, "{}", shown.text);
+                assert_eq!(shown.text.contains("  the first only in "), !same, "{}", shown.text);
             }
             again.pop();
             let fewer = random.arena(&again, 1);
@@ -350,7 +352,7 @@ mod tests {
             assert!(text.contains(&format!("part at {part}\n")), "{part}\n{text}");
         }
         let twice = said(&[open(&[1]), open(&[1])], &[open(&[1])]);
-        assert!(twice.contains("\n  A holds the first of them more often than B\n"), "{twice}");
+        assert!(twice.contains("\n  A holds the first of these more often than B\n"), "{twice}");
         let more = said(&[open(&[1])], &[open(&[1]), closed(&[2])]);
         assert!(more.contains("0 chains are only in A, 1 chain is only in B"), "{more}");
     }

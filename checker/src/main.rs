@@ -60,7 +60,7 @@ const VERSION: &str = concat!("checker ", env!("CARGO_PKG_VERSION"), "\n");
 type Draw = fn(&[Panel]) -> String;
 
 /// The options that name a file to draw into.
-const DRAWINGS: [(&str, Draw); 1] = [("--svg", svg::draw)];
+const DRAWINGS: &[(&str, Draw)] = &[("--svg", svg::draw)];
 
 /// What `cargo run` shows: case K11 (REFERENCE, Marked cases), and an arena with one wrong pointer.
 const WHOLE: &str = include_str!("../arenas/k11.txt");

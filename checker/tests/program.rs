@@ -105,7 +105,7 @@ fn the_chain_of_a_slot_is_shown_alone() {
     says(&["check", "broken.txt", "--around", "2"], "broken.around2.out", 1);
     for slot in ["10", "65535"] {
         let ran = checker(&["check", "whole.txt", "--around", slot]);
-        let message = format!("whole.txt: slot {slot} is not on the stack, which has 9 slots\n");
+        let message = format!("whole.txt: slot {slot} is not on the stack, whose length is 9\n");
         assert_eq!((ran.stdout, ran.stderr, ran.status), (String::new(), message, 2));
     }
 }
@@ -409,11 +409,16 @@ fn changed(lines: &[(&str, &str)]) -> String {
     })
 }
 
-/// The slots that are drawn as broken: the first text of each such box.
-fn drawn_broken(picture: &str) -> Vec<&str> {
+/// The slots that are drawn with a class: the first text of each such box.
+fn drawn_as<'p>(picture: &'p str, class: &str) -> Vec<&'p str> {
     let boxes =
-        picture.split("<g class=\"slot").filter(|text| text.split('>').next().unwrap().contains("broken"));
+        picture.split("<g class=\"slot").filter(|text| text.split('>').next().unwrap().contains(class));
     boxes.map(|text| text.split("</text>").next().and_then(|text| text.rsplit('>').next()).unwrap()).collect()
+}
+
+/// The slots that are drawn as broken.
+fn drawn_broken(picture: &str) -> Vec<&str> {
+    drawn_as(picture, "broken")
 }
 
 #[test]
@@ -631,4 +636,75 @@ fn a_compression_is_drawn_before_and_after() {
     for from in [1, 5, 3, 2, 4, 7, 9] {
         assert_eq!(picture.matches(&format!(">from {from}</text>")).count(), 1, "from {from}");
     }
+}
+
+/// The slots that are drawn as the one that is asked for.
+fn drawn_asked(picture: &str) -> Vec<&str> {
+    drawn_as(picture, "asked")
+}
+
+#[test]
+fn the_header_and_other_generations_are_drawn() {
+    let (_, picture) = on_text("check", "header.txt", &fs::read(arenas().join("whole.txt")).unwrap(), &[]);
+    let cells: Vec<&str> = picture.split("<g class=\"cell\">").skip(1).collect();
+    let names = ["stack length", "link count", "root", "current generation", "capacity"];
+    for (cell, (name, word)) in cells.iter().zip(names.into_iter().zip(["9", "7", "8", "5", "10"])) {
+        assert!(
+            cell.contains(&format!(">{name}</text>")) && cell.contains(&format!(">{word}</text>")),
+            "{cell}"
+        );
+    }
+    // Slots 5, 3 and 9 have other generations; that of every other link is 5.
+    assert_eq!(cells.len(), 5);
+    assert_eq!(picture.matches(">g ").count(), 3);
+    assert!([2, 3, 4].iter().all(|generation| picture.contains(&format!(">g {generation}</text>"))));
+    let (_, picture) = on_text("check", "short.txt", b"header 5 4 3", &[]);
+    assert_eq!((picture.matches("<g class=\"cell\">").count(), picture.matches(">missing<").count()), (5, 1));
+    let (_, picture) = on_text("check", "long.txt", format!("header{}", " 7".repeat(900)).as_bytes(), &[]);
+    assert_eq!(picture.matches("<g class=\"cell\">").count(), 9);
+    assert!(picture.contains(">word 7</text>") && picture.contains(">893</text>"));
+}
+
+#[test]
+fn lone_links_are_packed() {
+    let rows: String = (1..=23).map(|slot| format!("{slot} 0 0 5 {slot}\n")).collect();
+    let (ran, picture) = on_text("check", "lone.txt", format!("header 23 23 0 5\n{rows}").as_bytes(), &[]);
+    let said: Vec<&str> = ran.stdout.lines().skip(1).collect();
+    let expected =
+        ["  lone    1 2 3 4 5 6 7 8 9 10", "          11 12 13 14 15 16 17 18 19 20", "          21 22 23"];
+    assert_eq!(said, expected);
+    assert_eq!(picture.matches("<g class=\"slot\">").count(), 23);
+    assert_eq!((picture.matches("marker-end").count(), picture.matches(">lone</text>").count()), (0, 1));
+    let (ran, picture) =
+        on_text("check", "lone.txt", format!("header 23 23 0 5\n{rows}").as_bytes(), &["--around", "7"]);
+    assert_eq!(ran.stdout.lines().nth(1), Some("  lone    [7]"));
+    assert_eq!((picture.matches("<g class=\"slot").count(), drawn_asked(&picture)), (1, vec!["7"]));
+}
+
+#[test]
+fn a_long_chain_is_drawn_around_a_slot() {
+    for closed in [false, true] {
+        for slot in ["1", "40000", "65535"] {
+            let text = one_chain(65_535, closed);
+            let (ran, picture) = on_text("check", "around.txt", text.as_bytes(), &["--around", slot]);
+            assert_eq!((ran.stdout.matches(&format!("[{slot}]")).count(), ran.status), (1, 0));
+            assert_eq!(drawn_asked(&picture), [slot]);
+            let drawn = picture.matches("<g class=\"slot").count();
+            assert!((105..=110).contains(&drawn));
+            let note = format!("The picture is cut: {drawn} of 65535 slots of the chain are drawn.");
+            assert!(picture.contains(&note));
+        }
+    }
+}
+
+#[cfg(feature = "level-three")]
+#[test]
+fn the_chain_of_a_slot_is_drawn_before_and_after() {
+    let text = fs::read(arenas().join("whole.txt")).unwrap();
+    let (_, picture) = on_text("compress", "moved.txt", &text, &["--around", "2"]);
+    assert_eq!((picture.matches("<g class=\"slot").count(), drawn_asked(&picture)), (4, vec!["2", "5"]));
+    let (_, picture) = on_text("compress", "gone.txt", &text, &["--around", "6"]);
+    assert_eq!((picture.matches("<g class=\"slot").count(), drawn_asked(&picture)), (2, vec!["6"]));
+    let (ran, _) = on_text("compress", "away.txt", &text, &["--around", "10"]);
+    assert_eq!((ran.stdout.as_str(), ran.status), ("", 2));
 }
