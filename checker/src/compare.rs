@@ -367,7 +367,7 @@ mod tests {
     }
 
     #[test]
-    fn the_largest_arenas_are_compared_quickly() {
+    fn the_largest_arenas_are_compared() {
         let mut random = Random::new(4);
         let word = |count: u32, payload: fn(u32) -> u32| (0..count).map(payload).collect::<Vec<u32>>();
         let mut other = word(65_535, |_| 1);

@@ -1,6 +1,6 @@
 //! Where texts come from and pictures go to. No picture is written over what is read.
 
-use std::fs::{self, File, Metadata};
+use std::fs::{self, Metadata};
 use std::io::{self, Read};
 use std::path::{Path, PathBuf};
 
@@ -137,7 +137,7 @@ fn file_id(_: &Metadata) -> Option<FileId> {
 /// The file that standard input or output is, if it is one.
 #[cfg(unix)]
 fn standard(stream: &impl std::os::fd::AsFd) -> Option<FileId> {
-    let file = File::from(stream.as_fd().try_clone_to_owned().ok()?);
+    let file = fs::File::from(stream.as_fd().try_clone_to_owned().ok()?);
     file_id(&file.metadata().ok()?)
 }
 
@@ -145,4 +145,33 @@ fn standard(stream: &impl std::os::fd::AsFd) -> Option<FileId> {
 #[cfg(not(unix))]
 fn standard<T>(_: &T) -> Option<FileId> {
     None
+}
+
+#[cfg(all(test, unix))]
+mod tests {
+    use super::*;
+    use std::os::unix::fs::symlink;
+
+    #[test]
+    fn one_file_is_not_written_twice() {
+        let folder = std::env::temp_dir().join(format!("checker-{}", std::process::id()));
+        fs::create_dir(&folder).unwrap();
+        let target = |option, name: &str| Target { option, path: folder.join(name) };
+        let clash = |one: &str, other: &str| {
+            no_clash(&[], &[target("--one", one), target("--other", other)]).err().map(|message| {
+                assert!(message.starts_with("`--one ") && message.ends_with("` are one file"), "{message}");
+            })
+        };
+        assert_eq!((clash("a", "a"), clash("a", "b")), (Some(()), None));
+        fs::write(folder.join("a"), "").unwrap();
+        fs::hard_link(folder.join("a"), folder.join("hard")).unwrap();
+        symlink("a", folder.join("soft")).unwrap();
+        symlink(".", folder.join("here")).unwrap();
+        for other in ["a", "./a", "hard", "soft", "here/a", "here/here/soft"] {
+            assert_eq!(clash("a", other), Some(()), "{other}");
+        }
+        assert_eq!((clash("a", "b"), clash("here/new", "new")), (None, Some(())));
+        assert_eq!(clash("nowhere/a", "nowhere/a"), None);
+        fs::remove_dir_all(&folder).unwrap();
+    }
 }

@@ -31,6 +31,8 @@ use std::process::ExitCode;
 use arguments::{Asked, Command, How, Job};
 use checked::Checked;
 use panel::Panel;
+#[cfg(feature = "level-three")]
+use {compare::compare, compress::compress};
 
 const USAGE: &str = "\
 usage: checker [COMMAND] [OPTION]..
@@ -78,18 +80,6 @@ impl Shown {
     fn text(text: &str) -> Self {
         Self { text: text.to_string(), panels: Vec::new(), passes: true }
     }
-}
-
-/// Compresses an arena if it passes the check.
-#[cfg(feature = "level-three")]
-fn compress(checked: &Checked, how: How) -> Result<Shown, String> {
-    compress::compress(checked, how)
-}
-
-/// Compares two arenas if both pass the check.
-#[cfg(feature = "level-three")]
-fn compare(a: &Checked, b: &Checked) -> Result<Shown, String> {
-    compare::compare(a, b)
 }
 
 /// Level Three is not linked.
