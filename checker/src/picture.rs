@@ -163,7 +163,7 @@ impl Row {
         };
         let names = iter::once(self.kind.name()).chain(iter::repeat(""));
         let line =
-            |(name, words): (&str, String)| format!("  {name:<8}{words}").trim_end().to_string() + "\n";
+            |(name, words)| format!("  {:<8}{words}", format!("{name} ")).trim_end().to_string() + "\n";
         names.zip(lines).map(line).collect()
     }
 

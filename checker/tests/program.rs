@@ -103,6 +103,10 @@ fn the_chain_of_a_slot_is_shown_alone() {
     says(&["check", "whole.txt", "--around=9"], "whole.around9.out", 0);
     says(&["check", "whole.txt", "--around", "6"], "whole.around6.out", 0);
     says(&["check", "broken.txt", "--around", "2"], "broken.around2.out", 1);
+    // The freelist ends at slot 1 and misses slots 2 and 3.
+    let text = b"header 3 0 1 5\n1 0 1 0 0\n2 0 3 0 0\n3 0 3 0 0\n";
+    let (ran, _) = on_text("check", "missed.txt", text, &["--around", "3"]);
+    assert_eq!((ran.stdout.lines().last(), ran.status), (Some("  not listed 2 [3]"), 1));
     for slot in ["10", "65535"] {
         let ran = checker(&["check", "whole.txt", "--around", slot]);
         let message = format!("whole.txt: slot {slot} is not on the stack, whose length is 9\n");
