@@ -113,25 +113,42 @@ pub fn compare(a: &Checked, b: &Checked) -> Result<Shown, String> {
 fn compared(a: &Side<'_>, b: &Side<'_>) -> Shown {
     let (chains_a, chains_b) = (chains(&a.compressed.after), chains(&b.compressed.after));
     let (only_a, only_b) = without_partner(&chains_a, &chains_b);
-    let passes = only_a.is_empty() && only_b.is_empty();
     let first = first_difference(&a.compressed.after, &b.compressed.after);
-    let mut text = [a.line(), b.line()].concat();
-    text += &match (passes, &first) {
-        (true, None) => "A and B hold the same chains\n".to_string(),
-        (true, Some(_)) => "A and B hold the same chains, in another order\n".to_string(),
-        (false, _) => {
-            let counts = [counted(only_a.len()), counted(only_b.len())];
-            format!("A and B do not hold the same chains: {} only in A, {} only in B\n", counts[0], counts[1])
+    let text = [
+        a.line(),
+        b.line(),
+        verdict(only_a.len(), only_b.len(), first.is_none()),
+        a.only(&only_a),
+        b.only(&only_b),
+        parting((a, &chains_a, &only_a), (b, &chains_b, &only_b)),
+        words(first),
+    ];
+    Shown {
+        text: text.concat(),
+        panels: vec![a.panel(&only_a, b.label), b.panel(&only_b, a.label)],
+        passes: only_a.is_empty() && only_b.is_empty(),
+    }
+}
+
+/// Whether two arenas hold the same, of which so many chains have no partner.
+fn verdict(only_a: usize, only_b: usize, same_words: bool) -> String {
+    match (only_a, only_b, same_words) {
+        (0, 0, true) => "A and B hold the same chains\n".to_string(),
+        (0, 0, false) => "A and B hold the same chains, in another order\n".to_string(),
+        _ => {
+            let (only_a, only_b) = (counted(only_a), counted(only_b));
+            format!("A and B do not hold the same chains: {only_a} only in A, {only_b} only in B\n")
         }
+    }
+}
+
+/// What is said of the words of the compressed arenas, which may differ somewhere.
+fn words(first: Option<String>) -> String {
+    let said = match first {
+        Some(first) => format!("they first differ at slot {first}"),
+        None => "both have the same words: prev, next and payload of each link".to_string(),
     };
-    text += &[a.only(&only_a), b.only(&only_b)].concat();
-    text += &parting((a, &chains_a, &only_a), (b, &chains_b, &only_b));
-    text += &match first {
-        Some(first) => format!("  canonically compressed, they first differ at slot {first}\n"),
-        None => "  canonically compressed, both have the same words: prev, next and payload of each link\n"
-            .to_string(),
-    };
-    Shown { text, panels: vec![a.panel(&only_a, b.label), b.panel(&only_b, a.label)], passes }
+    format!("  canonically compressed, {said}\n")
 }
 
 /// A side, its chains, and those of them that have no partner.
