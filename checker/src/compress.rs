@@ -1,22 +1,31 @@
-//! A canonical compression side by side: the slots before it, after it, and where each link came from.
+//! A compression side by side: the slots before it, after it, and where each link came from.
 
 use std::fmt::{Display, Write};
 
 use chain_arena::{Header, NewGeneration, OwnedArena, Refusal, Slot};
 
+use crate::Shown;
+use crate::arguments::How;
 use crate::by_slot::BySlot;
-use crate::picture::Picture;
+use crate::checked::{Checked, rows};
+use crate::panel::Panel;
+
+/// What is told of a compression that made the generation overflow.
+const OVERFLOWED: &str =
+    "the generation overflowed, from 4294967295 to 2: pointers kept from before may name other links";
 
 /// An arena after its compression, with the old slot of each link by its new one.
 pub struct Compressed {
     pub after: OwnedArena,
     pub where_from: Vec<Slot>,
+    pub overflowed: bool,
 }
 
 impl Compressed {
-    /// Compresses a copy of the arena, without reset.
-    pub fn of(before: &OwnedArena) -> Result<Self, Refusal> {
+    /// Compresses a copy of the arena.
+    pub fn of(before: &OwnedArena, how: How) -> Result<Self, Refusal> {
         let mut after = before.clone();
+<<<<<<< HEAD
         let mut column = vec![0; before.capacity()];
         let where_from = after
             .as_arena_mut()
@@ -24,10 +33,23 @@ impl Compressed {
             .where_from
             .to_vec();
         Ok(Self { after, where_from })
+=======
+        let generation = if how.reset { NewGeneration::Reset } else { NewGeneration::Next };
+        let (where_from, overflowed) = match how.order_preserving {
+            true => in_order(&mut after, generation)?,
+            false => canonically(&mut after, generation)?,
+        };
+        Ok(Self { after, where_from, overflowed })
+>>>>>>> checker
     }
 
-    /// A table with a line for each slot that the stack had, then header and chains before and after.
-    pub fn table(&self, before: &OwnedArena) -> String {
+    /// The slot that the link of an old slot is in now, none if that was free.
+    fn went_to(&self, old: u32) -> Option<u32> {
+        self.where_from.iter().position(|&from| u32::from(from) == old).map(|place| place as u32 + 1)
+    }
+
+    /// A line for each slot that the stack had.
+    fn table(&self, before: &OwnedArena) -> String {
         let names = cells(["prev", "next", "generation", "payload"]);
         let mut text = format!(
             "     |{:<39} |{:<39} |\nslot |{names} |{names} | where-from\n",
@@ -38,6 +60,7 @@ impl Compressed {
             let (old, new) = (words(before, slot), words(&self.after, slot));
             let _ = writeln!(text, "{slot:>4} |{old} |{new} | {from:>10}");
         }
+<<<<<<< HEAD
         for (when, arena) in [("before", before), ("after", &self.after)] {
             let Header {
                 stack_length,
@@ -51,8 +74,73 @@ impl Compressed {
             );
             let _ = write!(text, "{}", Picture::of(arena));
         }
+=======
+>>>>>>> checker
         text
     }
+
+    /// Where the link of a slot went.
+    fn move_of(&self, slot: u32) -> String {
+        match self.went_to(slot) {
+            Some(now) => format!("slot {slot} went to slot {now}\n"),
+            None => format!("slot {slot} was free, and free slots are gone\n"),
+        }
+    }
+}
+
+/// Compresses an arena canonically; answers where each link came from, and whether the generation overflowed.
+fn canonically(arena: &mut OwnedArena, generation: NewGeneration) -> Result<(Vec<Slot>, bool), Refusal> {
+    let mut column = vec![0; arena.capacity()];
+    let done = arena.as_arena_mut().compress_canonical(generation, &mut column)?;
+    Ok((done.where_from.to_vec(), done.overflowed))
+}
+
+/// Compresses an arena in the order of its slots; answers where each link came from, and whether the generation overflowed.
+fn in_order(arena: &mut OwnedArena, generation: NewGeneration) -> Result<(Vec<Slot>, bool), Refusal> {
+    let mut report = vec![0; 4 * arena.capacity()];
+    let done = arena.as_arena_mut().compress_with(generation, &mut report)?;
+    Ok((done.links().map(|moved| moved.from.slot).collect(), done.overflowed))
+}
+
+/// Compresses an arena if it passes the check, and shows it before and after.
+pub fn compress(checked: &Checked, how: How) -> Result<Shown, String> {
+    if checked.refused.is_some() {
+        return Ok(checked.show());
+    }
+    let compressed =
+        Compressed::of(&checked.arena, how).map_err(|refusal| format!("{}: {refusal}", checked.name))?;
+    let title = format!("{}, {}", checked.name, done(how));
+    let around = checked.around.map(|slot| compressed.went_to(slot));
+    let mut text = format!("{title}:\n");
+    text += &match checked.around {
+        Some(slot) => compressed.move_of(slot),
+        None => compressed.table(&checked.arena),
+    };
+    let overflowed = Some(OVERFLOWED.to_string()).filter(|_| compressed.overflowed);
+    text.extend(overflowed.iter().map(|sentence| format!("{sentence}\n")));
+    text += &format!("before: {}\n{}", header(&checked.arena), checked.rows());
+    let mut panels = vec![checked.panel()];
+    // The chain of a slot that was free is nowhere afterwards.
+    if around != Some(None) {
+        let around = around.flatten();
+        text += &format!("after: {}\n{}", header(&compressed.after), rows(&compressed.after, around));
+        let Compressed { after: arena, where_from, .. } = compressed;
+        panels.push(Panel { title, sentence: overflowed, arena, faults: Vec::new(), where_from, around });
+    }
+    Ok(Shown { text, panels, passes: true })
+}
+
+/// What was done to an arena, in words.
+fn done(how: How) -> String {
+    let how_ordered =
+        if how.order_preserving { "compressed in the order of its slots" } else { "canonically compressed" };
+    format!("{how_ordered}{}", if how.reset { " with reset" } else { "" })
+}
+
+/// The header's words by name.
+fn header(arena: &OwnedArena) -> String {
+    let Header { stack_length, link_count, root, generation } = arena.header();
+    format!("stack length {stack_length}, link count {link_count}, root {root}, generation {generation}")
 }
 
 /// The words of a slot that are read: of a free slot only its next, above the stack none.

@@ -1,33 +1,73 @@
-//! Why the check refuses an arena: one sentence with the slots and numbers at hand.
+//! Why the check refuses an arena, with the slots and numbers at hand: one sentence, or for rule 11 one for each fault.
 //!
 //! Which rule fails is what the proved check says. This only looks for the words that make it fail.
 
 use chain_arena::{Header, OwnedArena, Refusal};
 
 use crate::by_slot::BySlot;
+use crate::panel::Fault;
 
-/// Why a rule fails, and the slot at which it does, if it is one slot's doing.
+/// Why a rule fails.
 #[derive(Debug, PartialEq, Eq)]
 pub struct Why {
-    pub slot: Option<u32>,
+    /// In one sentence; the first one, if there are several
     pub sentence: String,
+    /// The slots at which it fails, rising, with a sentence for each fault; none if that lies with no single slot
+    pub faults: Vec<Fault>,
 }
 
 impl Why {
     /// A reason that lies with no single slot.
     fn whole(sentence: String) -> Self {
+<<<<<<< HEAD
         Self {
             slot: None,
             sentence,
         }
+=======
+        Self { sentence, faults: Vec::new() }
+>>>>>>> checker
     }
 
     /// A reason that lies with a slot.
     fn at(slot: u32, sentence: String) -> Self {
+<<<<<<< HEAD
         Self {
             slot: Some(slot),
             sentence,
         }
+=======
+        Self::some(Some(slot), sentence)
+    }
+
+    /// A reason that lies with a slot, if there is one.
+    fn some(slot: Option<u32>, sentence: String) -> Self {
+        let fault = |slot| Fault { slot, sentence: sentence.clone() };
+        Self { faults: slot.map(fault).into_iter().collect(), sentence }
+    }
+
+    /// A line for each fault, and how many there are if there is more than one.
+    pub fn text(&self) -> String {
+        if self.faults.len() < 2 {
+            return format!("  {}\n", self.sentence);
+        }
+        let lines: String = self.faults.iter().map(|fault| format!("  {}\n", fault.sentence)).collect();
+        format!("{lines}  {}\n", self.count())
+    }
+
+    /// The first sentence, and how many there are if there is more than one.
+    pub fn summary(&self) -> String {
+        match self.faults.len() {
+            0 | 1 => self.sentence.clone(),
+            _ => format!("{} ({})", self.sentence, self.count()),
+        }
+    }
+
+    /// How many faults there are.
+    fn count(&self) -> String {
+        let slots = self.faults.chunk_by(|one, other| one.slot == other.slot).count();
+        format!("{} faults at {slots} {}", self.faults.len(), if slots == 1 { "slot" } else { "slots" })
+>>>>>>> checker
     }
 }
 
@@ -48,7 +88,7 @@ pub fn explain(a: &OwnedArena, refusal: Refusal) -> Why {
             header.stack_length
         )),
         5 => root(a),
-        11 => interlink(a, refusal.slot().map_or(0, u32::from)),
+        11 => interlinks(a),
         _ => freelist(a),
     }
 }
@@ -92,6 +132,7 @@ fn over_capacity(a: &OwnedArena) -> String {
 fn root(a: &OwnedArena) -> Why {
     let root = a.header().root;
     match a.stack().find(|&slot| a.is_free(slot)) {
+<<<<<<< HEAD
         Some(free) => Why::at(
             free,
             format!("there is no freelist root, but slot {free} is free"),
@@ -100,6 +141,13 @@ fn root(a: &OwnedArena) -> Why {
             slot: Some(root).filter(|&root| a.is_link(root)),
             sentence: format!("the freelist root is {root}, but no slot is free"),
         },
+=======
+        Some(free) => Why::at(free, format!("there is no freelist root, but slot {free} is free")),
+        None => Why::some(
+            Some(root).filter(|&root| a.is_link(root)),
+            format!("the freelist root is {root}, but no slot is free"),
+        ),
+>>>>>>> checker
     }
 }
 
@@ -121,6 +169,7 @@ fn freelist(a: &OwnedArena) -> Why {
             );
         }
         if slot > header.stack_length {
+<<<<<<< HEAD
             let above = format!(
                 "{comes}, which is above the stack length {}",
                 header.stack_length
@@ -129,6 +178,10 @@ fn freelist(a: &OwnedArena) -> Why {
                 slot: Some(from).filter(|&from| from != 0),
                 sentence: above,
             };
+=======
+            let above = format!("{comes}, which is above the stack length {}", header.stack_length);
+            return Why::some(Some(from).filter(|&from| from != 0), above);
+>>>>>>> checker
         }
         if a.is_link(slot) {
             return Why::at(slot, format!("{comes}, but slot {slot} is a link"));
@@ -164,6 +217,7 @@ fn missed(a: &OwnedArena, last: u32, count: usize, visited: &[bool]) -> Why {
     )
 }
 
+<<<<<<< HEAD
 /// Rule 11: what is wrong with a link's prev, else with its next.
 fn interlink(a: &OwnedArena, slot: u32) -> Why {
     let wrong = side(
@@ -181,6 +235,21 @@ fn interlink(a: &OwnedArena, slot: u32) -> Why {
         )
     });
     Why::at(slot, format!("slot {slot}: {}", wrong.unwrap_or_default()))
+=======
+/// Rule 11: what is wrong with each link's prev, and with its next.
+fn interlinks(a: &OwnedArena) -> Why {
+    let faults: Vec<Fault> =
+        a.stack().filter(|&slot| a.is_link(slot)).flat_map(|slot| interlink(a, slot)).collect();
+    Why { sentence: faults.first().map_or_else(String::new, |fault| fault.sentence.clone()), faults }
+}
+
+/// What is wrong with a link's prev, and with its next.
+fn interlink(a: &OwnedArena, slot: u32) -> impl Iterator<Item = Fault> {
+    let prev = side(a, slot, ("prev", a.prev(slot)), ("next", a.next(a.prev(slot))));
+    let next = side(a, slot, ("next", a.next(slot)), ("prev", a.prev(a.next(slot))));
+    let fault = move |wrong| Fault { slot, sentence: format!("slot {slot}: {wrong}") };
+    prev.into_iter().chain(next).map(fault)
+>>>>>>> checker
 }
 
 /// What is wrong with a link's neighbour on one side, which must name the link back on the other side.
@@ -268,9 +337,17 @@ mod tests {
             );
             assert!(!why.sentence.ends_with(": "), "{refusal} of {a:?}: {why:?}");
             assert!(
+<<<<<<< HEAD
                 why.slot.is_none_or(|slot| a.stack().contains(&slot)),
                 "{refusal} of {a:?}: {why:?}"
             );
+=======
+                why.faults.iter().all(|fault| a.stack().contains(&fault.slot)),
+                "{refusal} of {a:?}: {why:?}"
+            );
+            assert!(why.faults.is_sorted_by_key(|fault| fault.slot), "{refusal} of {a:?}: {why:?}");
+            assert!(why.faults.first().is_none_or(|fault| fault.sentence == why.sentence));
+>>>>>>> checker
         });
         assert!(
             seen.iter()
@@ -278,6 +355,36 @@ mod tests {
                 .all(|(number, &count)| count > 0 || number == 1),
             "{seen:?}"
         );
+    }
+
+    /// The sides of links at which rule 11 fails, as REFERENCE, Check tells it.
+    fn broken_sides(a: &OwnedArena) -> Vec<(u32, &'static str)> {
+        let links: Vec<u32> = a.stack().filter(|&slot| a.is_link(slot)).collect();
+        let good = |neighbour, back: u32, slot| neighbour == 0 || links.contains(&neighbour) && back == slot;
+        let mut broken = Vec::new();
+        for &slot in &links {
+            let (prev, next) = (a.prev(slot), a.next(slot));
+            broken.extend((!good(prev, a.next(prev), slot)).then_some((slot, "its prev is")));
+            broken.extend((!good(next, a.prev(next), slot)).then_some((slot, "its next is")));
+        }
+        broken
+    }
+
+    #[test]
+    fn every_fault_of_rule_11_is_listed_and_the_check_names_the_lowest() {
+        every_small_arena(|a| {
+            let Err(refusal) = a.as_arena().check() else { return };
+            if refusal.number() != 11 {
+                return;
+            }
+            let (why, broken) = (explain(a, refusal), broken_sides(a));
+            assert_eq!(why.faults.len(), broken.len(), "{a:?}: {why:?}");
+            for (fault, (slot, side)) in why.faults.iter().zip(broken) {
+                assert_eq!(fault.slot, slot, "{a:?}: {why:?}");
+                assert!(fault.sentence.starts_with(&format!("slot {slot}: {side} ")), "{a:?}: {why:?}");
+            }
+            assert_eq!(refusal.slot().map(u32::from), why.faults.first().map(|fault| fault.slot));
+        });
     }
 
     #[test]

@@ -4,31 +4,51 @@ use std::fmt;
 
 use chain_arena::OwnedArena;
 
-/// Where the text is not what it should be, and what should stand there. Lines and columns count from 1.
+use crate::quote::quoted;
+
+/// What some programs write in front of a UTF-8 text.
+const BYTE_ORDER_MARK: &[u8] = "\u{feff}".as_bytes();
+
+/// What a text in UTF-16 begins with.
+const UTF_16_MARKS: [&[u8]; 2] = [b"\xff\xfe", b"\xfe\xff"];
+
+/// Where the text is not what it should be: what stands there and what should. Lines and columns count from 1.
 #[derive(Debug, PartialEq, Eq)]
 pub struct ParseError {
     line: usize,
     column: usize,
+    found: String,
     expected: String,
 }
 
 impl fmt::Display for ParseError {
     fn fmt(&self, f: &mut fmt::Formatter<'_>) -> fmt::Result {
+<<<<<<< HEAD
         write!(
             f,
             "{}:{}: expected {}",
             self.line, self.column, self.expected
         )
+=======
+        let Self { line, column, found, expected } = self;
+        write!(f, "{line}:{column}: found {found}, expected {expected}")
+>>>>>>> checker
     }
 }
 
 /// The arena of a file's bytes.
 pub fn parse(bytes: &[u8]) -> Result<OwnedArena, ParseError> {
+<<<<<<< HEAD
     let text = str::from_utf8(bytes).map_err(|error| not_text(&bytes[..error.valid_up_to()]))?;
     let mut lines = text
         .lines()
         .enumerate()
         .map(|(k, text)| Line::new(k + 1, text));
+=======
+    let bytes = bytes.strip_prefix(BYTE_ORDER_MARK).unwrap_or(bytes);
+    let text = str::from_utf8(bytes).map_err(|error| not_text(bytes, error.valid_up_to()))?;
+    let mut lines = text.lines().enumerate().map(|(k, text)| Line::new(k + 1, text));
+>>>>>>> checker
     let mut arena = OwnedArena::default();
     match lines.find(|line| !line.is_empty()) {
         Some(line) => arena.header = header(line)?,
@@ -92,6 +112,11 @@ impl<'t> Line<'t> {
         self.read == self.text.len()
     }
 
+    /// The next word, empty at the end of the line.
+    fn peek(&self) -> &'t str {
+        self.text[self.read..].split_whitespace().next().unwrap_or_default()
+    }
+
     /// Goes on past a word of so many bytes and the blanks after it.
     fn skip(&mut self, bytes: usize) {
         let rest = &self.text[self.read + bytes..];
@@ -99,6 +124,7 @@ impl<'t> Line<'t> {
     }
 
     /// The next word as `read` takes it, else an error that tells what was expected.
+<<<<<<< HEAD
     fn word<T>(
         &mut self,
         expected: &str,
@@ -108,6 +134,10 @@ impl<'t> Line<'t> {
             .split_whitespace()
             .next()
             .unwrap_or_default();
+=======
+    fn word<T>(&mut self, expected: &str, read: impl FnOnce(&'t str) -> Option<T>) -> Result<T, ParseError> {
+        let word = self.peek();
+>>>>>>> checker
         let value = read(word).ok_or_else(|| self.error(expected))?;
         self.skip(word.len());
         Ok(value)
@@ -153,12 +183,17 @@ impl<'t> Line<'t> {
 
     /// The error that something else was expected where the line is read now.
     fn error(&self, expected: &str) -> ParseError {
+        let found = if self.is_empty() { "the end of the line".to_string() } else { quoted(self.peek()) };
         let column = self.text[..self.read].chars().count() + 1;
+<<<<<<< HEAD
         ParseError {
             line: self.number,
             column,
             expected: expected.to_string(),
         }
+=======
+        ParseError { line: self.number, column, found, expected: expected.to_string() }
+>>>>>>> checker
     }
 }
 
@@ -169,6 +204,7 @@ fn decimal(word: &str) -> Option<u64> {
         .then(|| word.parse().ok())?
 }
 
+<<<<<<< HEAD
 /// The error that the bytes after these are no text.
 fn not_text(before: &[u8]) -> ParseError {
     let before = String::from_utf8_lossy(before);
@@ -179,14 +215,36 @@ fn not_text(before: &[u8]) -> ParseError {
         column: last.chars().count() + 1,
         expected: "UTF-8 text".to_string(),
     }
+=======
+/// The line and column behind the end of a text.
+fn end_of(text: &str) -> (usize, usize) {
+    let last = text.rsplit('\n').next().unwrap_or_default();
+    (text.matches('\n').count() + 1, last.chars().count() + 1)
+}
+
+/// The error that the byte at a place, the first such, is no text.
+fn not_text(bytes: &[u8], place: usize) -> ParseError {
+    let (line, column) = end_of(&String::from_utf8_lossy(&bytes[..place]));
+    let hint = match UTF_16_MARKS.iter().any(|mark| bytes.starts_with(mark)) {
+        true => "; it seems to be UTF-16, save it as UTF-8",
+        false => "",
+    };
+    let found = format!("the byte {:#04x}", bytes[place]);
+    ParseError { line, column, found, expected: format!("UTF-8 text{hint}") }
+>>>>>>> checker
 }
 
 /// The error that the text ends before its header.
 fn no_header(text: &str) -> ParseError {
+<<<<<<< HEAD
     let line = text.lines().count() + 1;
     ParseError {
         line,
         column: 1,
         expected: "`header`, but the text ends".to_string(),
     }
+=======
+    let (line, column) = end_of(text);
+    ParseError { line, column, found: "the end of the text".to_string(), expected: "`header`".to_string() }
+>>>>>>> checker
 }

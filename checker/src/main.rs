@@ -1,42 +1,83 @@
-//! The checker for testers: reads an arena from plain text and says what the proved calls make of it, as text and as a
+//! The checker for testers: reads arenas from plain text and says what the proved calls make of them, as text and as a
 //! picture. `USAGE` says how it is called.
 
+#[cfg(feature = "level-three")]
+mod alike;
+mod arguments;
 mod by_slot;
+#[cfg(feature = "level-three")]
+mod chains;
+mod checked;
+#[cfg(feature = "level-three")]
+mod compare;
 #[cfg(feature = "level-three")]
 mod compress;
 mod explain;
+mod files;
 mod format;
 mod panel;
 mod picture;
+mod quote;
+#[cfg(test)]
+mod random;
+#[cfg(test)]
+mod robust;
 mod svg;
 
 use std::env;
-use std::ffi::OsString;
-use std::fs;
-use std::io::{self, Write};
-use std::path::{Path, PathBuf};
+use std::io::{self, ErrorKind, Write};
 use std::process::ExitCode;
 
+<<<<<<< HEAD
 use chain_arena::{OwnedArena, Refusal};
 
 use by_slot::BySlot;
 use explain::{Why, explain};
 use panel::{Fault, Panel};
 use picture::{Kind, Picture};
+=======
+use arguments::{Asked, Command, How, Job};
+use checked::Checked;
+use panel::Panel;
+#[cfg(feature = "level-three")]
+use {compare::compare, compress::compress};
+>>>>>>> checker
 
 const USAGE: &str = "\
-usage: checker [check FILE | compress FILE] [--svg OUT]
-  check FILE      says which rule the arena breaks, at which slot and why, or lists its chains
-  compress FILE   shows the arena before and after canonical compression, and where each link came from
-  --svg OUT       draws the arena too, before and after where it is compressed
-  no command      does all this for two arenas of its own, a whole and a broken one
-docs/FORMAT.md describes FILE. Exit status: 0 passes the check, 1 refused, 2 wrong use or unreadable file.
+usage: checker [COMMAND] [OPTION]..
+commands:
+  check FILE           says which rule the arena breaks, at which slots and why, or lists its chains
+  compress FILE        shows the arena before and after canonical compression, and where each link came from
+  compare A B          says whether two arenas hold the same chains of payloads, and where they first differ
+  none                 checks and compresses an arena of its own, and explains a broken one
+options:
+  --reset              for compress: the links get generation 2, not the next one
+  --order-preserving   for compress: the links stay in the order of their slots
+  --around SLOT        for check and compress: shows only the chain of a slot
+  --svg OUT            draws what is shown
+  -h, --help           prints this
+  -V, --version        prints the version
+  --                   what follows is no option
+FILE, A and B: `-` is standard input. docs/FORMAT.md describes the text.
+status:
+  0                    the arena passes the check; the two hold the same
+  1                    it is refused; they do not, or one is refused
+  2                    wrong use, a file that cannot be read or written, or a text that is no arena
 ";
+
+const VERSION: &str = concat!("checker ", env!("CARGO_PKG_VERSION"), "\n");
+
+/// How the panels are drawn for an option that names a file.
+type Draw = fn(&[Panel]) -> String;
+
+/// The options that name a file to draw into.
+const DRAWINGS: &[(&str, Draw)] = &[("--svg", svg::draw)];
 
 /// What `cargo run` shows: case K11 (REFERENCE, Marked cases), and an arena with one wrong pointer.
 const WHOLE: &str = include_str!("../arenas/k11.txt");
 const BROKEN: &str = include_str!("../arenas/broken.txt");
 
+<<<<<<< HEAD
 /// What is asked for.
 enum Request {
     Check(PathBuf),
@@ -158,18 +199,21 @@ fn counts(arena: &OwnedArena, picture: &Picture) -> String {
 }
 
 /// What is said and drawn, and whether the arena that was asked for passes the check.
+=======
+/// What is said and drawn, and whether the status is 0.
+>>>>>>> checker
 struct Shown {
     text: String,
     panels: Vec<Panel>,
     passes: bool,
 }
 
-/// Compresses an arena if it passes the check.
-#[cfg(feature = "level-three")]
-fn compress(checked: &Checked) -> Result<Shown, String> {
-    if checked.refused.is_some() {
-        return Ok(checked.show());
+impl Shown {
+    /// A text and nothing else.
+    fn text(text: &str) -> Self {
+        Self { text: text.to_string(), panels: Vec::new(), passes: true }
     }
+<<<<<<< HEAD
     let compressed = compress::Compressed::of(&checked.arena)
         .map_err(|refusal| format!("{}: {refusal}\n", checked.name))?;
     let text = format!(
@@ -189,22 +233,37 @@ fn compress(checked: &Checked) -> Result<Shown, String> {
         panels: vec![checked.panel(), after],
         passes: true,
     })
+=======
+>>>>>>> checker
 }
 
 /// Level Three is not linked.
 #[cfg(not(feature = "level-three"))]
-fn compress(_: &Checked) -> Result<Shown, String> {
-    Err("compress needs Level Three: build with the feature level-three\n".to_string())
+fn compress(_: &Checked, _: How) -> Result<Shown, String> {
+    Err("compress needs Level Three: build with the feature level-three".to_string())
+}
+
+/// Level Three is not linked.
+#[cfg(not(feature = "level-three"))]
+fn compare(_: &Checked, _: &Checked) -> Result<Shown, String> {
+    Err("compare needs Level Three: build with the feature level-three".to_string())
 }
 
 /// Checks and compresses the whole arena of its own, and checks the broken one.
 fn samples() -> Result<Shown, String> {
+<<<<<<< HEAD
     let whole = Checked::parse("K11", WHOLE.as_bytes())?;
     let broken = Checked::parse("a broken arena", BROKEN.as_bytes())?.show();
     let compressed = compress(&whole).unwrap_or_else(|message| Shown {
         text: message,
         ..whole.show()
     });
+=======
+    let whole = Checked::parse("K11".to_string(), WHOLE.as_bytes())?;
+    let broken = Checked::parse("a broken arena".to_string(), BROKEN.as_bytes())?.show();
+    let compressed = compress(&whole, How::default())
+        .unwrap_or_else(|message| Shown { text: message + "\n", ..whole.show() });
+>>>>>>> checker
     Ok(Shown {
         text: [whole.text(), compressed.text, broken.text].join("\n"),
         panels: compressed.panels.into_iter().chain(broken.panels).collect(),
@@ -212,22 +271,50 @@ fn samples() -> Result<Shown, String> {
     })
 }
 
-/// Does what the arguments ask for.
-fn answer(arguments: impl Iterator<Item = OsString>) -> Result<Shown, String> {
-    let (request, out) = request(arguments).ok_or(USAGE)?;
-    let shown = match request {
-        Request::Check(file) => Checked::read(&file)?.show(),
-        Request::Compress(file) => compress(&Checked::read(&file)?)?,
-        Request::Samples => samples()?,
+/// Does a job: reads, then draws.
+fn done(job: Job) -> Result<Shown, String> {
+    files::no_clash(&job.command.sources(), &job.targets)?;
+    let shown = match &job.command {
+        Command::Check(file) => Checked::read(file)?.around(job.around)?.show(),
+        Command::Compress(file, how) => compress(&Checked::read(file)?.around(job.around)?, *how)?,
+        Command::Compare(a, b) => compare(&Checked::read(a)?, &Checked::read(b)?)?,
+        Command::Samples => samples()?,
     };
+<<<<<<< HEAD
     if let Some(out) = out {
         fs::write(&out, svg::draw(&shown.panels))
             .map_err(|error| format!("{}: {error}\n", out.display()))?;
+=======
+    for target in &job.targets {
+        for (_, draw) in DRAWINGS.iter().filter(|(option, _)| *option == target.option) {
+            target.write(&draw(&shown.panels))?;
+        }
+>>>>>>> checker
     }
     Ok(shown)
 }
 
+/// Does what the arguments ask for.
+fn answer() -> Result<Shown, String> {
+    let asked = arguments::parse(env::args_os().skip(1), DRAWINGS.iter().map(|(option, _)| *option));
+    match asked.map_err(|message| format!("{message}\n`checker --help` tells how it is called"))? {
+        Asked::Help => Ok(Shown::text(USAGE)),
+        Asked::Version => Ok(Shown::text(VERSION)),
+        Asked::Job(job) => done(job),
+    }
+}
+
+/// Prints a text on standard output. That its reader has gone away, such as `head`, needs no message.
+fn print(text: &str) -> Result<(), Option<String>> {
+    let mut output = io::stdout().lock();
+    let written = output.write_all(text.as_bytes()).and_then(|()| output.flush());
+    written.map_err(|error| {
+        Some(format!("standard output: {error}")).filter(|_| error.kind() != ErrorKind::BrokenPipe)
+    })
+}
+
 fn main() -> ExitCode {
+<<<<<<< HEAD
     // A reader that has gone away, such as `head`, is no failure of ours.
     match answer(env::args_os().skip(1)) {
         Ok(shown) => {
@@ -238,8 +325,14 @@ fn main() -> ExitCode {
                 ExitCode::from(1)
             }
         }
+=======
+    let printed = answer().map_err(Some).and_then(|shown| print(&shown.text).map(|()| shown.passes));
+    match printed {
+        Ok(passes) => ExitCode::from(u8::from(!passes)),
+>>>>>>> checker
         Err(message) => {
-            let _ = io::stderr().write_all(message.as_bytes());
+            let _ =
+                io::stderr().write_all(message.map(|message| message + "\n").unwrap_or_default().as_bytes());
             ExitCode::from(2)
         }
     }

@@ -2,17 +2,21 @@
 
 use chain_arena::{OwnedArena, Slot};
 
+use crate::picture::Picture;
+
 /// An arena to show.
 #[derive(Clone, Debug)]
 pub struct Panel {
     pub title: String,
-    /// Why the check refuses it
+    /// What must be told of it, such as why the check refuses it
     pub sentence: Option<String>,
     pub arena: OwnedArena,
     /// What is wrong, by rising slots; of a rule that fails at no slot nothing
     pub faults: Vec<Fault>,
     /// The old slot of each link by its new one, after a compression
     pub where_from: Vec<Slot>,
+    /// The slot whose chain alone is shown, if not all is
+    pub around: Option<u32>,
 }
 
 /// What is wrong at a slot.
@@ -28,5 +32,21 @@ impl Panel {
         self.faults
             .binary_search_by_key(&slot, |fault| fault.slot)
             .is_ok()
+    }
+
+    /// All that is wrong at a slot.
+    pub fn faults_at(&self, slot: u32) -> &[Fault] {
+        let from = self.faults.partition_point(|fault| fault.slot < slot);
+        let to = self.faults.partition_point(|fault| fault.slot <= slot);
+        &self.faults[from..to]
+    }
+
+    /// The rows that are shown.
+    pub fn picture(&self) -> Picture {
+        let picture = Picture::of(&self.arena);
+        match self.around {
+            Some(slot) => picture.around(slot),
+            None => picture,
+        }
     }
 }

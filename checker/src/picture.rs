@@ -1,22 +1,31 @@
-//! What an arena holds, as rows of slots: its chains, its freelist, and free slots that are not on it. As text, `1 -> 5` is
-//! open and `2 -> 4 -> (2)` is closed.
+//! What an arena holds, as rows of slots: its chains, its lone links, its freelist, and free slots that are not on it. As
+//! text, `1 -> 5` is open and `2 -> 4 -> (2)` is closed.
 
-use std::fmt;
+use std::iter;
 
 use chain_arena::OwnedArena;
 
 use crate::by_slot::BySlot;
 
-/// How wide a line of text may be.
+/// How wide a line of text may be, and how much of it is the row's name.
 const WIDTH: usize = 100;
+const INDENT: usize = 10;
+
+/// What stands between a slot and the one that its pointer leads to.
+const ARROW: &str = " -> ";
+
+/// How many slots without pointers between them stand on a line.
+pub const PACKED: usize = 10;
 
 /// What a row's slots are to each other.
 #[derive(Clone, Copy, Debug, PartialEq, Eq)]
 pub enum Kind {
-    /// An open chain from its start to its end
+    /// An open chain of two or more links, or of one with a wrong pointer, from its start to its end
     Open,
     /// A closed chain from its lowest slot on
     Closed,
+    /// All links without neighbours
+    Lone,
     /// The free slots from the root on
     Freelist,
     /// Free slots that the freelist does not come to
@@ -24,18 +33,24 @@ pub enum Kind {
 }
 
 impl Kind {
+    /// Whether a pointer leads from each slot to the following one.
+    pub fn is_linked(self) -> bool {
+        !matches!(self, Self::Lone | Self::Unlisted)
+    }
+
     /// The row's name.
     pub fn name(self) -> &'static str {
         match self {
             Self::Open => "open",
             Self::Closed => "closed",
+            Self::Lone => "lone",
             Self::Freelist => "free",
             Self::Unlisted => "not listed",
         }
     }
 }
 
-/// A row of slots. A pointer leads from each to the following one, except between slots that are not listed.
+/// A row of slots. A pointer leads from each to the following one if the [kind](Kind::is_linked) says so.
 #[derive(Clone, Debug, PartialEq, Eq)]
 pub struct Row {
     pub kind: Kind,
@@ -58,7 +73,10 @@ impl Picture {
         let mut drawn = vec![false; a.stack().count() + 1];
         let links: Vec<u32> = a.stack().filter(|&slot| a.is_link(slot)).collect();
         let mut rows = Vec::new();
-        for &start in links.iter().filter(|&&slot| before(a, slot).is_none()) {
+        let (lone, chained): (Vec<u32>, Vec<u32>) =
+            links.into_iter().partition(|&slot| a.prev(slot) == 0 && a.next(slot) == 0);
+        lone.iter().for_each(|&slot| drawn[slot as usize] = true);
+        for &start in chained.iter().filter(|&&slot| before(a, slot).is_none()) {
             let slots = follow(start, &mut drawn, |slot| after(a, slot));
             let end = a.next(slots[slots.len() - 1]);
             rows.push(Row {
@@ -68,19 +86,25 @@ impl Picture {
                 wrong_next: Some(end).filter(|&next| next != 0),
             });
         }
-        for &slot in &links {
+        for &slot in &chained {
             if !drawn[slot as usize] {
                 let slots = follow(slot, &mut drawn, |slot| after(a, slot));
+<<<<<<< HEAD
                 rows.push(Row {
                     kind: Kind::Closed,
                     slots,
                     wrong_prev: None,
                     wrong_next: None,
                 });
+=======
+                rows.push(Row::whole(Kind::Closed, slots));
+>>>>>>> checker
             }
         }
+        rows.extend(Some(Row::whole(Kind::Lone, lone)).filter(|row| !row.slots.is_empty()));
         rows.extend(freelist(a, &mut drawn));
         let slots: Vec<u32> = a.stack().filter(|&slot| !drawn[slot as usize]).collect();
+<<<<<<< HEAD
         if !slots.is_empty() {
             rows.push(Row {
                 kind: Kind::Unlisted,
@@ -89,12 +113,99 @@ impl Picture {
                 wrong_next: None,
             });
         }
+=======
+        rows.extend(Some(Row::whole(Kind::Unlisted, slots)).filter(|row| !row.slots.is_empty()));
+>>>>>>> checker
         Self { rows }
     }
 
-    /// How many rows are of a kind.
-    pub fn count(&self, kind: Kind) -> usize {
-        self.rows.iter().filter(|row| row.kind == kind).count()
+    /// How many open chains there are, lone links among them.
+    pub fn open_chains(&self) -> usize {
+        let chains = |row: &Row| match row.kind {
+            Kind::Open => 1,
+            Kind::Lone => row.slots.len(),
+            _ => 0,
+        };
+        self.rows.iter().map(chains).sum()
+    }
+
+    /// How many closed chains there are.
+    pub fn closed_chains(&self) -> usize {
+        self.rows.iter().filter(|row| row.kind == Kind::Closed).count()
+    }
+
+    /// The rows with the chain of a slot: its own, those that the wrong pointers of that row lead to, and those with a wrong
+    /// pointer to the slot.
+    pub fn around(&self, slot: u32) -> Self {
+        let own = self.row_of(slot);
+        let wrong = own.as_ref().map(Row::wrong).unwrap_or_default();
+        let mut rows: Vec<Row> = own.into_iter().collect();
+        for row in wrong.into_iter().flatten().filter_map(|slot| self.row_of(slot)) {
+            rows.extend(Some(row).filter(|row| !rows.contains(row)));
+        }
+        let from = self.rows.iter().filter(|row| row.wrong().contains(&Some(slot)) && !rows.contains(row));
+        let from: Vec<Row> = from.cloned().collect();
+        rows.extend(from);
+        Self { rows }
+    }
+
+    /// The row with a slot. A lone link is the whole of its chain.
+    fn row_of(&self, slot: u32) -> Option<Row> {
+        let row = self.rows.iter().find(|row| row.slots.contains(&slot))?;
+        Some(if row.kind == Kind::Lone { Row::whole(Kind::Lone, vec![slot]) } else { row.clone() })
+    }
+
+    /// The rows as text, one of the slots marked.
+    pub fn text(&self, marked: Option<u32>) -> String {
+        self.rows.iter().map(|row| row.text(marked)).collect()
+    }
+}
+
+impl Row {
+    /// A row of which no pointer is wrong.
+    fn whole(kind: Kind, slots: Vec<u32>) -> Self {
+        Self { kind, slots, wrong_prev: None, wrong_next: None }
+    }
+
+    /// Where its wrong pointers lead.
+    pub fn wrong(&self) -> [Option<u32>; 2] {
+        [self.wrong_prev, self.wrong_next]
+    }
+
+    /// The row's name and its slots with arrows between them where there are pointers, on as many lines as it needs. The
+    /// marked slot stands in brackets.
+    pub fn text(&self, marked: Option<u32>) -> String {
+        let word = |&slot: &u32| if marked == Some(slot) { format!("[{slot}]") } else { slot.to_string() };
+        let words: Vec<String> = self.slots.iter().map(word).collect();
+        let lines = match self.kind.is_linked() {
+            true => self.arrows(words),
+            false => words.chunks(PACKED).map(|words| words.join(" ")).collect(),
+        };
+        let names = iter::once(self.kind.name()).chain(iter::repeat(""));
+        let line =
+            |(name, words)| format!("  {:<8}{words}", format!("{name} ")).trim_end().to_string() + "\n";
+        names.zip(lines).map(line).collect()
+    }
+
+    /// Words with arrows between them, broken into lines. Where the row comes from and leads to stands before and after them.
+    fn arrows(&self, words: Vec<String>) -> Vec<String> {
+        let before = self.wrong_prev.map(|prev| format!("(prev {prev} is wrong)"));
+        let after = match (self.wrong_next, self.kind) {
+            (Some(next), _) => Some(format!("({next} is wrong)")),
+            (None, Kind::Closed) => self.slots.first().map(|first| format!("({first})")),
+            (None, _) => None,
+        };
+        let mut lines = vec![before.map_or_else(String::new, |before| before + " ")];
+        for (k, word) in words.into_iter().chain(after).enumerate() {
+            let last = lines.len() - 1;
+            if INDENT + lines[last].len() + ARROW.len() + word.len() > WIDTH {
+                lines.push(String::new());
+            }
+            let last = lines.len() - 1;
+            lines[last] += if k == 0 { "" } else { ARROW };
+            lines[last] += &word;
+        }
+        lines
     }
 }
 
@@ -144,6 +255,7 @@ fn follow(first: u32, drawn: &mut [bool], onward: impl Fn(u32) -> Option<u32>) -
     }
     slots
 }
+<<<<<<< HEAD
 
 /// Writes the row's name and its slots with arrows between them, on as many lines as it needs. Wrong pointers are left out:
 /// only whole arenas are shown as text.
@@ -173,3 +285,5 @@ impl fmt::Display for Picture {
         self.rows.iter().try_for_each(|row| row.fmt(f))
     }
 }
+=======
+>>>>>>> checker

@@ -1,36 +1,55 @@
-//! Draws arenas: chains as rows of boxes with arrows, free slots and the freelist in grey, the broken slot in red.
+//! Draws arenas: the header's words, chains as rows of boxes with arrows, free slots and the freelist in grey, broken slots
+//! in red.
+
+use chain_arena::Header;
 
 use crate::by_slot::BySlot;
 use crate::panel::Panel;
-use crate::picture::{Kind, Picture, Row};
+use crate::picture::{Kind, PACKED, Picture, Row};
 
 /// How many boxes stand on a line; a longer row goes on below.
-const BOXES: usize = 10;
-/// How many lines of an arena are drawn; of a longer one, those around the broken slot, else the first.
+const BOXES: usize = PACKED;
+/// How many lines of an arena are drawn; of a longer one, those around the first broken slot, else the first.
 const LINES: usize = 60;
+/// How many lines of a row are drawn where only the chain of a slot is shown; of a longer one, those around the slot.
+const LINES_AROUND: usize = 11;
+/// How many words of a header are drawn.
+const HEADER_WORDS: usize = 7;
 
 // Sizes, in the picture's units.
 const BOX_WIDTH: usize = 84;
 const BOX_HEIGHT: usize = 40;
+/// How much higher boxes are where a generation stands in them
+const GENERATION_HEIGHT: usize = 15;
 const STEP: usize = BOX_WIDTH + 30;
-const LINE_HEIGHT: usize = BOX_HEIGHT + 34;
+/// How far the boxes of a line are above those of the next one
+const GAP: usize = 34;
 const LEFT: usize = 140;
+/// The width and height of a cell for a word of the header
+const CELL: (usize, usize) = (130, 38);
 const MARGIN: usize = 20;
 const TEXT_HEIGHT: usize = 24;
 /// How far below its boxes the arrow runs that leads a row back to the left.
 const RETURN: usize = 18;
 
+/// What stands below all.
+const NOTE: &str = "Each box is a slot: its number, its payload, and its generation (g) where that is not the current one. The \
+                    arrows are next.";
+
 const STYLE: &str = "\
 text { font: 14px sans-serif; fill: #222 }
 .title { font-weight: bold; font-size: 16px }
 .note { font-size: 11px; fill: #666 }
+.cell rect { fill: #f4f6f8; stroke: #bbb }
+.cell text, .slot text { text-anchor: middle }
 .slot rect { fill: #fff; stroke: #222; stroke-width: 1.5 }
-.slot text { text-anchor: middle }
 .slot .number { font-weight: bold }
 .free rect { fill: #ddd; stroke: #999 }
 .free text { fill: #777 }
+.asked rect { stroke: #06c; stroke-width: 4 }
 .broken rect { fill: #fdd; stroke: #d00; stroke-width: 3 }
 .broken text, text.wrong { fill: #b00 }
+.broken.asked rect { stroke: #06c; stroke-width: 4 }
 text.before { text-anchor: end }
 path { fill: none; stroke-width: 1.5 }
 path.next { stroke: #222 }
@@ -43,6 +62,7 @@ const ARROWS: [(&str, &str); 3] = [("next", "#222"), ("freelist", "#999"), ("wro
 
 /// Draws the panels below each other.
 pub fn draw(panels: &[Panel]) -> String {
+<<<<<<< HEAD
     let mut drawing = Drawing {
         body: String::new(),
         y: MARGIN,
@@ -60,6 +80,14 @@ pub fn draw(panels: &[Panel]) -> String {
         y: height,
         width,
     } = drawing;
+=======
+    let mut drawing = Drawing { body: String::new(), y: MARGIN, width: 0, box_height: BOX_HEIGHT };
+    for panel in panels {
+        drawing.panel(panel);
+    }
+    drawing.text("note", NOTE);
+    let Drawing { body, y: height, width, .. } = drawing;
+>>>>>>> checker
     let tips = ARROWS.map(|(name, colour)| tip(name, colour)).concat();
     format!(
         r##"<svg xmlns="http://www.w3.org/2000/svg" width="{width}" height="{height}" viewBox="0 0 {width} {height}">
@@ -83,6 +111,7 @@ fn tip(name: &str, colour: &str) -> String {
 }
 
 /// A line of boxes: part of a row, from a place on.
+#[derive(Clone, Copy)]
 struct Line<'a> {
     row: &'a Row,
     from: usize,
@@ -129,6 +158,7 @@ fn lines(row: &Row) -> impl Iterator<Item = Line<'_>> {
         .map(move |from| Line { row, from })
 }
 
+<<<<<<< HEAD
 /// As many lines as are drawn: around the broken slot, else the first.
 fn around<'l, 'a>(all: &'l [Line<'a>], broken: Option<u32>) -> &'l [Line<'a>] {
     let is_broken = |line: &Line<'_>| broken.is_some_and(|slot| line.slots().contains(&slot));
@@ -137,6 +167,75 @@ fn around<'l, 'a>(all: &'l [Line<'a>], broken: Option<u32>) -> &'l [Line<'a>] {
         .saturating_sub(LINES / 2)
         .min(all.len().saturating_sub(LINES));
     &all[first..all.len().min(first + LINES)]
+=======
+/// At most so many lines: around the one with a slot, else the first ones.
+fn window<'l, 'a>(all: &'l [Line<'a>], most: usize, slot: Option<u32>) -> &'l [Line<'a>] {
+    let has_it = |line: &Line<'_>| slot.is_some_and(|slot| line.slots().contains(&slot));
+    let middle = all.iter().position(has_it).unwrap_or(0);
+    let first = middle.saturating_sub(most / 2).min(all.len().saturating_sub(most));
+    &all[first..all.len().min(first + most)]
+}
+
+/// The lines that are drawn of a panel's rows.
+fn drawn<'a>(panel: &Panel, picture: &'a Picture) -> Vec<Line<'a>> {
+    let all: Vec<Line<'_>> = picture.rows.iter().flat_map(lines).collect();
+    match (panel.around, picture.rows.first()) {
+        (Some(slot), Some(own)) => {
+            let rows = all.chunk_by(|one, other| std::ptr::eq(one.row, other.row));
+            let lines = rows.flat_map(|row| window(row, LINES_AROUND, focus(own, slot, row[0].row)));
+            lines.take(LINES).copied().collect()
+        }
+        _ => window(&all, LINES, panel.faults.first().map(|fault| fault.slot)).to_vec(),
+    }
+}
+
+/// The slot of a row that has to do with the chain of a slot: the slot itself, one that a wrong pointer of its row leads to, or
+/// the last one, which leads to it.
+fn focus(own: &Row, slot: u32, row: &Row) -> Option<u32> {
+    let from_own = own.wrong().into_iter().flatten();
+    let to_own = row.slots.last().filter(|_| row.wrong_next == Some(slot));
+    [slot].into_iter().chain(from_own).find(|slot| row.slots.contains(slot)).or(to_own.copied())
+}
+
+/// The header's words by name, as many as there are, and the capacity. Of a header that is far too long the first ones.
+fn header_cells(panel: &Panel) -> Vec<(String, String)> {
+    const NAMES: [&str; Header::WORDS] = ["stack length", "link count", "root", "current generation"];
+    let words = &panel.arena.header;
+    let name = |place: usize| {
+        NAMES.get(place).map_or_else(|| format!("word {}", place + 1), |name| name.to_string())
+    };
+    let word = |place: usize| words.get(place).map_or_else(|| "missing".to_string(), u32::to_string);
+    let places = 0..words.len().clamp(NAMES.len(), HEADER_WORDS);
+    let mut cells: Vec<_> = places.map(|place| (name(place), word(place))).collect();
+    if words.len() > HEADER_WORDS {
+        cells.push(("further words".to_string(), (words.len() - HEADER_WORDS).to_string()));
+    }
+    cells.push(("capacity".to_string(), panel.arena.capacity().to_string()));
+    cells
+}
+
+/// Whether a slot is a link that has not the current generation.
+fn has_other_generation(panel: &Panel, slot: u32) -> bool {
+    panel.arena.is_link(slot) && panel.arena.generation(slot) != panel.arena.header().generation
+}
+
+/// A text as XML may hold it. What may not stand there, and what would break a line, becomes U+FFFD.
+fn escape(text: &str) -> String {
+    let mut escaped = String::with_capacity(text.len());
+    for character in text.chars() {
+        match character {
+            '&' => escaped += "&amp;",
+            '<' => escaped += "&lt;",
+            '>' => escaped += "&gt;",
+            '"' => escaped += "&quot;",
+            '\'' => escaped += "&apos;",
+            '\u{fffe}' | '\u{ffff}' => escaped.push('\u{fffd}'),
+            _ if character.is_control() => escaped.push('\u{fffd}'),
+            _ => escaped.push(character),
+        }
+    }
+    escaped
+>>>>>>> checker
 }
 
 /// The left edge of the box at a place of its line.
@@ -144,67 +243,98 @@ fn x_of(place: usize) -> usize {
     LEFT + place * STEP
 }
 
-/// The picture so far, where the next line stands, and how far to the right it goes.
+/// The picture so far, where the next line stands, how far to the right it goes, and how high the boxes are now.
 struct Drawing {
     body: String,
     y: usize,
     width: usize,
+    box_height: usize,
 }
 
 impl Drawing {
     /// Draws an arena below what is there.
     fn panel(&mut self, panel: &Panel) {
-        let picture = Picture::of(&panel.arena);
-        let all: Vec<Line<'_>> = picture.rows.iter().flat_map(lines).collect();
-        let drawn = around(&all, panel.faults.first().map(|fault| fault.slot));
+        let picture = panel.picture();
+        let lines = drawn(panel, &picture);
         self.text("title", &panel.title);
         if let Some(sentence) = &panel.sentence {
             self.text("wrong", sentence);
         }
-        if all.is_empty() {
+        self.header(panel);
+        if picture.rows.is_empty() {
             self.text("note", "There is no slot in the stack.");
         }
-        if drawn.len() < all.len() {
-            let slots: usize = drawn.iter().map(|line| line.slots().len()).sum();
-            let stack = panel.arena.stack().count();
-            self.text(
-                "note",
-                &format!("The picture is cut: {slots} of the stack's {stack} slots are drawn."),
-            );
+        let slots: usize = lines.iter().map(|line| line.slots().len()).sum();
+        let all: usize = picture.rows.iter().map(|row| row.slots.len()).sum();
+        if slots < all {
+            let whole = if panel.around.is_some() { "chain" } else { "stack" };
+            let note = format!("The picture is cut: {slots} of {all} slots of the {whole} are drawn.");
+            self.text("note", &note);
         }
-        self.lines(panel, drawn);
+        self.box_height = BOX_HEIGHT;
+        if lines.iter().flat_map(Line::slots).any(|&slot| has_other_generation(panel, slot)) {
+            self.box_height += GENERATION_HEIGHT;
+        }
+        self.lines(panel, &lines);
+    }
+
+    /// Draws the header's words beside each other.
+    fn header(&mut self, panel: &Panel) {
+        let ((width, height), y) = (CELL, self.y + 4);
+        for (k, (name, word)) in header_cells(panel).iter().enumerate() {
+            let x = MARGIN + k * width;
+            self.body += &format!(
+                "<g class=\"cell\"><rect x=\"{x}\" y=\"{y}\" width=\"{width}\" height=\"{height}\"/>\n"
+            );
+            self.label("note", x + width / 2, y + 14, name);
+            self.label("", x + width / 2, y + 31, word);
+            self.body += "</g>\n";
+            self.width = self.width.max(x + width + MARGIN);
+        }
+        self.y = y + height;
     }
 
     /// Draws lines below each other.
     fn lines(&mut self, panel: &Panel, lines: &[Line<'_>]) {
-        let top = self.y + 8;
+        let (top, step) = (self.y + 16, self.box_height + GAP);
         for (k, line) in lines.iter().enumerate() {
-            self.y = top + k * LINE_HEIGHT;
-            if line.is_first() {
-                self.row_start(line.row);
+            self.y = top + k * step;
+            let of_row = |other: &Line<'_>| std::ptr::eq(other.row, line.row);
+            let first = lines.iter().position(of_row).unwrap_or(k);
+            if first == k {
+                self.row_start(line);
             }
             if line.is_last() {
+<<<<<<< HEAD
                 let row_start = k
                     .checked_sub(line.from / BOXES)
                     .map(|first| top + first * LINE_HEIGHT);
+=======
+                let row_start = Some(top + first * step).filter(|_| lines[first].is_first());
+>>>>>>> checker
                 self.row_end(line, row_start);
             } else {
-                self.row_goes_on(line, k + 1 < lines.len());
+                self.row_goes_on(line, lines.get(k + 1).is_some_and(of_row));
             }
             self.boxes(panel, line);
         }
-        self.y = top + lines.len() * LINE_HEIGHT + MARGIN;
+        self.y = top + lines.len() * step + MARGIN;
     }
 
     /// The height of the arrows on the line at hand.
     fn middle(&self) -> usize {
-        self.y + BOX_HEIGHT / 2
+        self.y + self.box_height / 2
     }
 
-    /// A row's name, and what leads to its first box: the freelist root, or a prev that is wrong.
-    fn row_start(&mut self, row: &Row) {
-        let middle = self.middle();
+    /// A row's name, and what leads to its first box: the freelist root, or a prev that is wrong. Where the row is cut, the
+    /// place at which it goes on.
+    fn row_start(&mut self, line: &Line<'_>) {
+        let (row, middle) = (line.row, self.middle());
         self.label("", MARGIN, middle + 5, row.kind.name());
+        if !line.is_first() {
+            self.label("note", MARGIN, middle + 20, &format!("from place {}", line.from + 1));
+            return;
+        }
         if row.kind == Kind::Freelist && !row.slots.is_empty() {
             self.arrow("freelist", LEFT - 30, "h30");
         }
@@ -224,11 +354,16 @@ impl Drawing {
                 self.label("wrong", right + 26, middle + 5, &next.to_string());
             }
             (None, Kind::Closed, Some(start)) => {
+<<<<<<< HEAD
                 let (below, left, to) = (
                     self.y + BOX_HEIGHT + RETURN,
                     LEFT - 22,
                     start + BOX_HEIGHT / 2,
                 );
+=======
+                let (below, left) = (self.y + self.box_height + RETURN, LEFT - 22);
+                let to = start + self.box_height / 2;
+>>>>>>> checker
                 self.arrow("next", right, &format!("h12V{below}H{left}V{to}H{LEFT}"));
             }
             (None, Kind::Closed, None) => {
@@ -243,12 +378,13 @@ impl Drawing {
             (None, Kind::Freelist, _) => {
                 self.arrow("freelist", right, &format!("h12V{}h-26v8", self.y - 8));
             }
-            (None, Kind::Open | Kind::Unlisted, _) => {}
+            (None, Kind::Open | Kind::Lone | Kind::Unlisted, _) => {}
         }
     }
 
     /// What leads from the end of a line to the row's next one, if that is drawn.
     fn row_goes_on(&mut self, line: &Line<'_>, drawn: bool) {
+<<<<<<< HEAD
         let (below, left, to) = (
             self.y + BOX_HEIGHT + RETURN,
             LEFT - 12,
@@ -262,32 +398,57 @@ impl Drawing {
                 &format!("h12V{below}H{left}V{to}H{LEFT}"),
             ),
             (_, false) => self.arrow(line.arrow(), line.right(), "h24"),
+=======
+        let (below, left) = (self.y + self.box_height + RETURN, LEFT - 12);
+        let to = self.middle() + self.box_height + GAP;
+        match (line.row.kind.is_linked(), drawn) {
+            (false, _) => {}
+            (true, true) => {
+                self.arrow(line.arrow(), line.right(), &format!("h12V{below}H{left}V{to}H{LEFT}"))
+            }
+            (true, false) => {
+                self.arrow(line.arrow(), line.right(), "h22");
+                let next = line.row.slots[line.from + BOXES];
+                self.label("note", line.right() + 26, self.middle() + 4, &format!("on to {next}"));
+            }
+>>>>>>> checker
         }
     }
 
     /// Draws the boxes of a line with the arrows between them.
     fn boxes(&mut self, panel: &Panel, line: &Line<'_>) {
         for (place, &slot) in line.slots().iter().enumerate() {
+<<<<<<< HEAD
             if place > 0 && line.row.kind != Kind::Unlisted {
                 self.arrow(
                     line.arrow(),
                     x_of(place) - (STEP - BOX_WIDTH),
                     &format!("H{}", x_of(place)),
                 );
+=======
+            if place > 0 && line.row.kind.is_linked() {
+                self.arrow(line.arrow(), x_of(place) - (STEP - BOX_WIDTH), &format!("H{}", x_of(place)));
+>>>>>>> checker
             }
             self.slot(panel, slot, x_of(place));
         }
     }
 
-    /// Draws a slot: its number, its payload, and after a compression where the link came from.
+    /// Draws a slot: its number, its payload, its generation if that is not the current one, and after a compression where
+    /// the link came from. What is wrong with it is shown when one points at it.
     fn slot(&mut self, panel: &Panel, slot: u32, x: usize) {
-        let (y, centre) = (self.y, x + BOX_WIDTH / 2);
+        let (y, height, centre) = (self.y, self.box_height, x + BOX_WIDTH / 2);
         let free = panel.arena.is_free(slot);
         let kind = if free { " free" } else { "" };
         let broken = if panel.is_broken(slot) { " broken" } else { "" };
-        self.body += &format!(
-            r#"<g class="slot{kind}{broken}"><rect x="{x}" y="{y}" width="{BOX_WIDTH}" height="{BOX_HEIGHT}" rx="4"/>"#
-        );
+        let asked = if panel.around == Some(slot) { " asked" } else { "" };
+        self.body += &format!("<g class=\"slot{kind}{broken}{asked}\">");
+        let wrong: Vec<&str> = panel.faults_at(slot).iter().map(|fault| fault.sentence.as_str()).collect();
+        if !wrong.is_empty() {
+            self.body += &format!("<title>{}</title>", escape(&wrong.join("; ")));
+        }
+        self.body +=
+            &format!("<rect x=\"{x}\" y=\"{y}\" width=\"{BOX_WIDTH}\" height=\"{height}\" rx=\"4\"/>");
         self.label("number", centre, y + 17, &slot.to_string());
         let payload = if free {
             "free".to_string()
@@ -295,8 +456,11 @@ impl Drawing {
             panel.arena.payload(slot).to_string()
         };
         self.label("note", centre, y + 33, &payload);
+        if has_other_generation(panel, slot) {
+            self.label("note", centre, y + 48, &format!("g {}", panel.arena.generation(slot)));
+        }
         if let Some(from) = panel.where_from.get(slot as usize - 1) {
-            self.label("note", centre, y + BOX_HEIGHT + 13, &format!("from {from}"));
+            self.label("note", centre, y + height + 13, &format!("from {from}"));
         }
         self.body += "</g>\n";
         self.width = self.width.max(x + STEP + 3 * MARGIN);
@@ -319,10 +483,14 @@ impl Drawing {
 
     /// A text somewhere.
     fn label(&mut self, class: &str, x: usize, y: usize, text: &str) {
+<<<<<<< HEAD
         let text = text
             .replace('&', "&amp;")
             .replace('<', "&lt;")
             .replace('>', "&gt;");
+=======
+        let text = escape(text);
+>>>>>>> checker
         self.body += &format!("<text class=\"{class}\" x=\"{x}\" y=\"{y}\">{text}</text>\n");
     }
 }

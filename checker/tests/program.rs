@@ -1,8 +1,11 @@
 //! The checker, run as a tester runs it: what it says, what it draws and how it ends.
 
-use std::fs;
+mod xml;
+
+use std::fs::{self, File};
+use std::io::Write;
 use std::path::{Path, PathBuf};
-use std::process::Command;
+use std::process::{Command, Output, Stdio};
 
 /// How a run of the program ended, and what it wrote.
 struct Ran {
@@ -16,6 +19,7 @@ fn arenas() -> PathBuf {
     Path::new(env!("CARGO_MANIFEST_DIR")).join("tests/arenas")
 }
 
+<<<<<<< HEAD
 /// Runs the program in the folder of the arenas.
 fn checker(arguments: &[&str]) -> Ran {
     let output = Command::new(env!("CARGO_BIN_EXE_checker"))
@@ -23,6 +27,17 @@ fn checker(arguments: &[&str]) -> Ran {
         .current_dir(arenas())
         .output()
         .unwrap();
+=======
+/// The program, to be run in the folder of the arenas.
+fn program(arguments: &[&str]) -> Command {
+    let mut program = Command::new(env!("CARGO_BIN_EXE_checker"));
+    program.args(arguments).current_dir(arenas());
+    program
+}
+
+/// What became of a run.
+fn ran(output: Output) -> Ran {
+>>>>>>> checker
     Ran {
         status: output.status.code().unwrap(),
         stdout: String::from_utf8(output.stdout).unwrap(),
@@ -30,16 +45,43 @@ fn checker(arguments: &[&str]) -> Ran {
     }
 }
 
-/// Runs the program on a text, and answers too what it drew.
-fn on_text(command: &str, name: &str, text: &[u8]) -> (Ran, String) {
+/// Runs the program in the folder of the arenas.
+fn checker(arguments: &[&str]) -> Ran {
+    ran(program(arguments).output().unwrap())
+}
+
+/// Runs the program with a text on its standard input.
+fn with_input(arguments: &[&str], text: &[u8]) -> Ran {
+    let streams = || Stdio::piped();
+    let mut child = program(arguments).stdin(streams()).stdout(streams()).stderr(streams()).spawn().unwrap();
+    child.stdin.take().unwrap().write_all(text).unwrap();
+    ran(child.wait_with_output().unwrap())
+}
+
+/// A fresh folder for the files of a test.
+fn folder(name: &str) -> PathBuf {
+    let folder = Path::new(env!("CARGO_TARGET_TMPDIR")).join(name);
+    let _ = fs::remove_dir_all(&folder);
+    fs::create_dir(&folder).unwrap();
+    folder
+}
+
+/// A path as an argument.
+fn word(path: &Path) -> &str {
+    path.to_str().unwrap()
+}
+
+/// Runs the program on a text with further options, and answers too what it drew.
+fn on_text(command: &str, name: &str, text: &[u8], options: &[&str]) -> (Ran, String) {
     let file = Path::new(env!("CARGO_TARGET_TMPDIR")).join(name);
     let picture = file.with_extension("svg");
     let _ = fs::remove_file(&picture);
     fs::write(&file, text).unwrap();
-    let (file, out) = (file.to_str().unwrap(), picture.to_str().unwrap());
-    let ran = checker(&[command, file, "--svg", out]);
+    let (file, out) = (word(&file), word(&picture));
+    let ran = checker(&[&[command, file, "--svg", out], options].concat());
     let said = ran.stdout.replace(file, name);
     let failed = ran.stderr.replace(file, name);
+<<<<<<< HEAD
     (
         Ran {
             stdout: said,
@@ -48,6 +90,13 @@ fn on_text(command: &str, name: &str, text: &[u8]) -> (Ran, String) {
         },
         fs::read_to_string(&picture).unwrap_or_default(),
     )
+=======
+    let drawn = fs::read_to_string(&picture).unwrap_or_default();
+    if !drawn.is_empty() {
+        assert_eq!(xml::well_formed(&drawn), Ok(()));
+    }
+    (Ran { stdout: said, stderr: failed, ..ran }, drawn)
+>>>>>>> checker
 }
 
 /// Holds what the program says to a stored text.
@@ -72,12 +121,88 @@ fn a_broken_arena_is_explained() {
     says(&["check", "broken.txt"], "broken.check.out", 1);
 }
 
+#[test]
+fn the_chain_of_a_slot_is_shown_alone() {
+    says(&["check", "whole.txt", "--around", "5"], "whole.around5.out", 0);
+    says(&["check", "whole.txt", "--around=9"], "whole.around9.out", 0);
+    says(&["check", "whole.txt", "--around", "6"], "whole.around6.out", 0);
+    says(&["check", "broken.txt", "--around", "2"], "broken.around2.out", 1);
+    // The freelist ends at slot 1 and misses slots 2 and 3.
+    let text = b"header 3 0 1 5\n1 0 1 0 0\n2 0 3 0 0\n3 0 3 0 0\n";
+    let (ran, _) = on_text("check", "missed.txt", text, &["--around", "3"]);
+    assert_eq!((ran.stdout.lines().last(), ran.status), (Some("  not listed 2 [3]"), 1));
+    for slot in ["10", "65535"] {
+        let ran = checker(&["check", "whole.txt", "--around", slot]);
+        let message = format!("whole.txt: slot {slot} is not on the stack, whose length is 9\n");
+        assert_eq!((ran.stdout, ran.stderr, ran.status), (String::new(), message, 2));
+    }
+}
+
 #[cfg(feature = "level-three")]
 #[test]
 fn a_compression_is_shown_side_by_side() {
     says(&["compress", "whole.txt"], "whole.compress.out", 0);
     says(&["compress", "empty.txt"], "empty.compress.out", 0);
     says(&["compress", "broken.txt"], "broken.check.out", 1);
+    says(&["compress", "whole.txt", "--reset"], "whole.compress.reset.out", 0);
+    says(&["compress", "whole.txt", "--order-preserving"], "whole.compress.order.out", 0);
+    says(&["compress", "whole.txt", "--around", "2"], "whole.compress.around2.out", 0);
+    says(&["compress", "whole.txt", "--around", "6"], "whole.compress.around6.out", 0);
+}
+
+#[cfg(feature = "level-three")]
+#[test]
+fn an_overflow_is_told() {
+    let sentence =
+        "the generation overflowed, from 4294967295 to 2: pointers kept from before may name other links";
+    let text = "header 2 1 1 4294967295\n1 0 1 0 0\n2 0 0 7 10\n";
+    for (options, overflows) in [
+        (&[][..], true),
+        (&["--order-preserving"], true),
+        (&["--reset"], false),
+        (&["--reset", "--order-preserving"], false),
+    ] {
+        let (ran, picture) = on_text("compress", "overflow.txt", text.as_bytes(), options);
+        assert_eq!((ran.stderr.as_str(), ran.status), ("", 0));
+        assert_eq!(ran.stdout.lines().any(|line| line == sentence), overflows, "{options:?}: {}", ran.stdout);
+        assert_eq!(picture.contains(&format!(">{sentence}</text>")), overflows, "{options:?}");
+        assert!(ran.stdout.contains("after: stack length 1, link count 1, root 0, generation 2\n"));
+    }
+    let (ran, _) = on_text("compress", "no_links.txt", b"header 0 0 0 4294967295", &[]);
+    assert!(!ran.stdout.contains("overflowed"));
+}
+
+#[cfg(feature = "level-three")]
+#[test]
+fn arenas_are_compared() {
+    says(&["compare", "whole.txt", "whole.txt"], "compare.same.out", 0);
+    says(&["compare", "whole.txt", "renamed.txt"], "compare.renamed.out", 0);
+    says(&["compare", "whole.txt", "changed.txt"], "compare.changed.out", 1);
+    says(&["compare", "changed.txt", "empty.txt"], "compare.empty.out", 1);
+    says(&["compare", "empty.txt", "empty.txt"], "compare.none.out", 0);
+    says(&["compare", "whole.txt", "broken.txt"], "compare.broken.out", 1);
+    says(&["compare", "broken.txt", "broken.txt"], "compare.both_broken.out", 1);
+    let ran = with_input(&["compare", "-", "whole.txt"], &fs::read(arenas().join("renamed.txt")).unwrap());
+    assert!(
+        ran.stdout.starts_with("A: standard input: 7 links on 2 open and 2 closed chains\nB: whole.txt: ")
+    );
+    assert_eq!((ran.stderr.as_str(), ran.status), ("", 0));
+}
+
+#[cfg(feature = "level-three")]
+#[test]
+fn what_differs_is_drawn() {
+    let out = folder("compared").join("out.svg");
+    let ran = checker(&["compare", "whole.txt", "changed.txt", "--svg", word(&out)]);
+    assert_eq!(ran.status, 1);
+    let picture = fs::read_to_string(&out).unwrap();
+    assert_eq!(xml::well_formed(&picture), Ok(()));
+    assert_eq!(picture.matches("class=\"title\"").count(), 2);
+    // The closed chain from slot 4 to slot 5 of A is open in B, and the payload of slot 6 is another.
+    assert_eq!(drawn_broken(&picture), ["4", "5", "6", "4", "5", "6"]);
+    let ran = checker(&["compare", "whole.txt", "renamed.txt", "--svg", word(&out)]);
+    assert_eq!(ran.status, 0);
+    assert!(drawn_broken(&fs::read_to_string(&out).unwrap()).is_empty());
 }
 
 #[cfg(feature = "level-three")]
@@ -88,6 +213,7 @@ fn without_arguments_it_shows_arenas_of_its_own() {
 
 #[cfg(not(feature = "level-three"))]
 #[test]
+<<<<<<< HEAD
 fn a_compression_needs_level_three() {
     let ran = checker(&["compress", "whole.txt"]);
     let message = "compress needs Level Three: build with the feature level-three\n";
@@ -95,19 +221,41 @@ fn a_compression_needs_level_three() {
         (ran.stdout.as_str(), ran.stderr.as_str(), ran.status),
         ("", message, 2)
     );
+=======
+fn compressing_and_comparing_need_level_three() {
+    for (command, files) in [("compress", &["whole.txt"][..]), ("compare", &["whole.txt", "whole.txt"])] {
+        let ran = checker(&[&[command], files].concat());
+        let message = format!("{command} needs Level Three: build with the feature level-three\n");
+        assert_eq!((ran.stdout.as_str(), ran.stderr, ran.status), ("", message, 2));
+    }
+}
+
+#[test]
+fn help_and_version_are_printed() {
+    for option in ["--help", "-h"] {
+        let ran = checker(&["check", option]);
+        assert!(ran.stdout.starts_with("usage: checker [COMMAND] [OPTION]..\n"), "{}", ran.stdout);
+        assert_eq!((ran.stderr.as_str(), ran.status), ("", 0));
+    }
+    for option in ["--version", "-V"] {
+        let ran = checker(&[option]);
+        let version = concat!("checker ", env!("CARGO_PKG_VERSION"), "\n");
+        assert_eq!((ran.stdout.as_str(), ran.stderr.as_str(), ran.status), (version, "", 0));
+    }
+>>>>>>> checker
 }
 
 #[test]
 fn wrong_use_is_told() {
-    for arguments in [
-        &["check"][..],
-        &["look", "whole.txt"],
-        &["whole.txt"],
-        &["check", "whole.txt", "whole.txt"],
-        &["check", "whole.txt", "--svg"],
-        &["check", "whole.txt", "--svg", "a", "--svg", "b"],
+    for (arguments, message) in [
+        (&["check"][..], "`check` needs one file, but none is given"),
+        (&["look", "whole.txt"], "unknown command `look`"),
+        (&["check", "whole.txt", "--foo"], "unknown option `--foo`"),
+        (&["check", "whole.txt", "--svg"], "`--svg` needs the name of a file to write"),
+        (&["compare", "-", "-"], "`compare - -`: standard input can be read only once"),
     ] {
         let ran = checker(arguments);
+<<<<<<< HEAD
         assert_eq!(
             (ran.stdout.as_str(), ran.status),
             ("", 2),
@@ -128,11 +276,129 @@ fn wrong_use_is_told() {
         "{}",
         ran.stderr
     );
+=======
+        assert_eq!((ran.stdout.as_str(), ran.status), ("", 2), "checker {arguments:?}");
+        assert_eq!(ran.stderr, format!("{message}\n`checker --help` tells how it is called\n"));
+    }
+    for (arguments, name) in [
+        (&["check", "nowhere.txt"][..], "nowhere.txt: "),
+        (&["check", "."], ".: "),
+        (&["check", ""], "``: "),
+        (&["check", "nowhere\n\u{1b}.txt"], r"nowhere\n\u{1b}.txt: "),
+        (&["check", "whole.txt", "--svg", "nowhere/picture.svg"], "nowhere/picture.svg: "),
+    ] {
+        let ran = checker(arguments);
+        assert_eq!((ran.stdout.as_str(), ran.status), ("", 2));
+        assert!(ran.stderr.starts_with(name), "{}", ran.stderr);
+    }
+>>>>>>> checker
 }
 
 #[test]
-fn a_parse_error_has_its_line_and_column() {
+fn a_dash_is_standard_input() {
+    let text = fs::read(arenas().join("whole.txt")).unwrap();
+    let ran = with_input(&["check", "-"], &text);
+    let expected = fs::read_to_string(arenas().join("whole.check.out")).unwrap();
+    assert_eq!(ran.stdout, expected.replace("whole.txt", "standard input"));
+    assert_eq!((ran.stderr.as_str(), ran.status), ("", 0));
+    let ran = with_input(&["check", "-"], b"header 1 x");
+    let message =
+        "standard input:1:10: found `x`, expected a word of the header, a number from 0 to 4294967295\n";
+    assert_eq!((ran.stdout.as_str(), ran.stderr.as_str(), ran.status), ("", message, 2));
+}
+
+#[cfg(unix)]
+#[test]
+fn what_is_read_is_not_written_over() {
+    let folder = folder("written_over");
+    let text = fs::read(arenas().join("whole.txt")).unwrap();
+    let file = folder.join("arena.txt");
+    fs::write(&file, &text).unwrap();
+    fs::create_dir(folder.join("inner")).unwrap();
+    fs::hard_link(&file, folder.join("hard.svg")).unwrap();
+    std::os::unix::fs::symlink(&file, folder.join("soft.svg")).unwrap();
+    for out in ["arena.txt", "./arena.txt", "inner/../arena.txt", "hard.svg", "soft.svg"] {
+        for (command, files) in [("check", &["arena.txt"][..]), ("compare", &["hard.svg", "arena.txt"])] {
+            let arguments = [&[command], files, &["--svg", out]].concat();
+            let ran = ran(program(&arguments).current_dir(&folder).output().unwrap());
+            let message = format!("`--svg {out}` would write over {}, which is read\n", files[0]);
+            assert_eq!((ran.stdout.as_str(), ran.stderr, ran.status), ("", message, 2));
+        }
+        let input = File::open(&file).unwrap();
+        let arguments = ["check", "-", "--svg", out];
+        let ran = ran(program(&arguments).current_dir(&folder).stdin(input).output().unwrap());
+        let message = format!("`--svg {out}` would write over standard input, which is read\n");
+        assert_eq!((ran.stdout.as_str(), ran.stderr, ran.status), ("", message, 2));
+    }
+    assert_eq!(fs::read(&file).unwrap(), text);
+    let said = folder.join("said");
+    let mut run = program(&["check", "whole.txt", "--svg", word(&said)]);
+    let ran = ran(run.stdout(File::create(&said).unwrap()).output().unwrap());
+    assert_eq!(ran.status, 2);
+    assert!(
+        ran.stderr.ends_with("would write over standard output, which goes to that file\n"),
+        "{}",
+        ran.stderr
+    );
+}
+
+#[cfg(target_os = "linux")]
+#[test]
+fn a_failed_write_is_told() {
+    let full = || File::create("/dev/full").unwrap();
+    for arguments in [&["check", "whole.txt"][..], &["--help"], &["--version"], &[]] {
+        let ran = ran(program(arguments).stdout(full()).output().unwrap());
+        assert_eq!(ran.status, 2);
+        assert!(ran.stderr.starts_with("standard output: "), "{}", ran.stderr);
+    }
+    let ran = checker(&["check", "whole.txt", "--svg", "/dev/full"]);
+    assert_eq!((ran.stdout.as_str(), ran.status), ("", 2));
+    assert!(ran.stderr.starts_with("/dev/full: "), "{}", ran.stderr);
+}
+
+#[cfg(unix)]
+#[test]
+fn a_reader_that_has_gone_away_needs_no_message() {
+    let (reader, writer) = std::io::pipe().unwrap();
+    drop(reader);
+    let ran = ran(program(&["check", "whole.txt"]).stdout(writer).output().unwrap());
+    assert_eq!((ran.stderr.as_str(), ran.status), ("", 2));
+}
+
+#[cfg(unix)]
+#[test]
+fn a_file_may_have_any_name() {
+    use std::ffi::OsStr;
+    use std::os::unix::ffi::OsStrExt;
+    let folder = folder("names");
+    let text = fs::read(arenas().join("whole.txt")).unwrap();
+    for (name, shown) in [
+        (&b"<&>\"'.txt"[..], "&lt;&amp;&gt;&quot;&apos;.txt"),
+        (b"]]>&amp;", "]]&gt;&amp;amp;"),
+        (b"\x01\x1b\n\x7f", r"\u{1}\u{1b}\n\u{7f}"),
+        (b"\xff\xef\xbf\xbf", "\u{fffd}\\u{ffff}"),
+        ("--\u{202e}\u{1f600}".as_bytes(), "--\\u{202e}\u{1f600}"),
+    ] {
+        let name = OsStr::from_bytes(name);
+        fs::write(folder.join(name), &text).unwrap();
+        let mut run = program(&["check", "--svg", "out.svg", "--"]);
+        let ran = ran(run.arg(name).current_dir(&folder).output().unwrap());
+        assert_eq!((ran.stderr.as_str(), ran.status), ("", 0), "{name:?}");
+        let picture = fs::read_to_string(folder.join("out.svg")).unwrap();
+        assert_eq!(xml::well_formed(&picture), Ok(()), "{name:?}");
+        assert!(
+            picture.contains(&format!("<text class=\"title\" x=\"20\" y=\"34\">{shown}</text>")),
+            "{name:?}"
+        );
+    }
+}
+
+#[test]
+fn a_parse_error_has_its_place_and_what_was_found() {
+    let word_of_header = "expected a word of the header, a number from 0 to 4294967295";
+    let long = format!("header {}", "9".repeat(50));
     let cases: &[(&[u8], &str)] = &[
+<<<<<<< HEAD
         (b"", "1:1: expected `header`, but the text ends"),
         (
             b"# nothing\n\n",
@@ -155,41 +421,70 @@ fn a_parse_error_has_its_line_and_column() {
         (
             b"header 1 1 0 5\n1 +0 0 5 5",
             "2:3: expected the prev of slot 1, a number from 0 to 65535 or `-`",
+=======
+        (b"", "1:1: found the end of the text, expected `header`"),
+        (b"# nothing\n\n", "3:1: found the end of the text, expected `header`"),
+        (b"\n# nothing", "2:10: found the end of the text, expected `header`"),
+        (b"\n head 1 1 0 5\n", "2:2: found `head`, expected `header`"),
+        (b"header 1 x 0 5\n", &format!("1:10: found `x`, {word_of_header}")),
+        (b"header 1 1 0 4294967296", &format!("1:14: found `4294967296`, {word_of_header}")),
+        (long.as_bytes(), &format!("1:8: found `{}..`, {word_of_header}", "9".repeat(40))),
+        (b"header \x1b[31m\x00\n", &format!(r"1:8: found `\u{{1b}}[31m\0`, {word_of_header}")),
+        (b"header 1 1 0 5\n2 0 0 5 5", "2:1: found `2`, expected slot 1"),
+        (b"header 2 2 0 5\n1 0 0 5 5\n\n1 0 0 5 5", "4:1: found `1`, expected slot 2"),
+        (
+            b"header 1 1 0 5\n1 +0 0 5 5",
+            "2:3: found `+0`, expected the prev of slot 1, a number from 0 to 65535 or `-`",
+>>>>>>> checker
         ),
         (
             b"header 1 1 0 5\n1 0 65536 5 5",
-            "2:5: expected the next of slot 1, a number from 0 to 65535 or `-`",
+            "2:5: found `65536`, expected the next of slot 1, a number from 0 to 65535 or `-`",
         ),
         (
             b"header 1 1 0 5\r\n1 0\t0 -5 5\r\n",
-            "2:7: expected the generation of slot 1, a number from 0 to 4294967295 or `-`",
+            "2:7: found `-5`, expected the generation of slot 1, a number from 0 to 4294967295 or `-`",
         ),
         (
             b"header 1 1 0 5\n1 0 0 5 # 5",
-            "2:8: expected the payload of slot 1, a number from 0 to 4294967295 or `-`",
+            "2:8: found the end of the line, expected the payload of slot 1, a number from 0 to 4294967295 or `-`",
         ),
+<<<<<<< HEAD
         (
             b"header 1 1 0 5\n1 0 0 5 5  6 # six",
             "2:12: expected the end of the line",
         ),
+=======
+        (b"header 1 1 0 5\n1 0 0 5 5  6 # six", "2:12: found `6`, expected the end of the line"),
+>>>>>>> checker
         (
             b"header 2 2 0 5\n1 0 0 5 -\n2 0 0 5 7",
-            "3:9: expected `-`, since the payload column ended before slot 1",
+            "3:9: found `7`, expected `-`, since the payload column ended before slot 1",
         ),
+        ("# \u{e9}\nheader \u{e9} 1".as_bytes(), &format!("2:8: found `\u{e9}`, {word_of_header}")),
+        (b"header 1 1\n1 \xff", "2:3: found the byte 0xff, expected UTF-8 text"),
+        (b"\xef\xbb\xbfhead", "1:1: found `head`, expected `header`"),
+        (b"\xef\xbb\xbf\xef\xbb\xbfheader", r"1:1: found `\u{feff}header`, expected `header`"),
         (
-            "# \u{e9}\nheader \u{e9} 1".as_bytes(),
-            "2:8: expected a word of the header, a number from 0 to 4294967295",
+            b"\xff\xfeh\x00",
+            "1:1: found the byte 0xff, expected UTF-8 text; it seems to be UTF-16, save it as UTF-8",
         ),
-        (b"header 1 1\n1 \xff", "2:3: expected UTF-8 text"),
     ];
     for (k, (text, expected)) in cases.iter().enumerate() {
-        let (ran, picture) = on_text("check", &format!("parse{k}.txt"), text);
+        let (ran, picture) = on_text("check", &format!("parse{k}.txt"), text, &[]);
         assert_eq!(ran.stderr, format!("parse{k}.txt:{expected}\n"));
         assert_eq!(
             (ran.stdout.as_str(), ran.status, picture.as_str()),
             ("", 2, "")
         );
     }
+}
+
+#[test]
+fn a_byte_order_mark_is_skipped() {
+    let (ran, _) = on_text("check", "marked.txt", b"\xef\xbb\xbfheader 0 0 0 2", &[]);
+    assert!(ran.stdout.starts_with("marked.txt: passes the check"));
+    assert_eq!((ran.stderr.as_str(), ran.status), ("", 0));
 }
 
 /// 1 -> 5, the closed 2 -> 4 -> (2), and the free slot 3.
@@ -210,6 +505,7 @@ fn changed(lines: &[(&str, &str)]) -> String {
     })
 }
 
+<<<<<<< HEAD
 /// The slots that are drawn as broken: the first text of each such box.
 fn drawn_broken(picture: &str) -> Vec<&str> {
     let boxes = picture
@@ -223,6 +519,18 @@ fn drawn_broken(picture: &str) -> Vec<&str> {
                 .unwrap()
         })
         .collect()
+=======
+/// The slots that are drawn with a class: the first text of each such box.
+fn drawn_as<'p>(picture: &'p str, class: &str) -> Vec<&'p str> {
+    let boxes =
+        picture.split("<g class=\"slot").filter(|text| text.split('>').next().unwrap().contains(class));
+    boxes.map(|text| text.split("</text>").next().and_then(|text| text.rsplit('>').next()).unwrap()).collect()
+>>>>>>> checker
+}
+
+/// The slots that are drawn as broken.
+fn drawn_broken(picture: &str) -> Vec<&str> {
+    drawn_as(picture, "broken")
 }
 
 #[test]
@@ -331,16 +639,11 @@ fn each_refusal_is_explained_and_its_slot_is_drawn_red() {
         ),
         (
             11,
-            row("1 0 5 5 10", "1 0 6 5 10"),
-            "slot 1: its next is 6, which is above the stack length 5",
-            "1",
-        ),
-        (
-            11,
             row("1 0 5 5 10", "1 6 5 5 10"),
             "slot 1: its prev is 6, which is above the stack length 5",
             "1",
         ),
+<<<<<<< HEAD
         (
             11,
             row("1 0 5 5 10", "1 0 3 5 10"),
@@ -377,9 +680,14 @@ fn each_refusal_is_explained_and_its_slot_is_drawn_red() {
             "slot 2: its prev is 1, but the next of slot 1 is 5, not 2",
             "2",
         ),
+=======
+        (11, row("1 0 5 5 10", "1 3 5 5 10"), "slot 1: its prev is 3, but slot 3 is free", "1"),
+        (11, row("5 1 0 5 50", "5 0 0 5 50"), "slot 1: its next is 5, but slot 5 has no prev", "1"),
+        (11, row("1 0 5 5 10", "1 0 0 5 10"), "slot 5: its prev is 1, but slot 1 has no next", "5"),
+>>>>>>> checker
     ];
     for (number, text, why, slot) in cases {
-        let (ran, picture) = on_text("check", "refused.txt", text.as_bytes());
+        let (ran, picture) = on_text("check", "refused.txt", text.as_bytes(), &[]);
         assert!(
             ran.stdout
                 .starts_with(&format!("refused.txt: refused with {number}")),
@@ -387,6 +695,7 @@ fn each_refusal_is_explained_and_its_slot_is_drawn_red() {
             ran.stdout
         );
         assert_eq!(ran.stdout.lines().nth(1), Some(format!("  {why}").as_str()));
+<<<<<<< HEAD
         assert_eq!(
             (ran.stdout.lines().count(), ran.stderr.as_str(), ran.status),
             (2, "", 1)
@@ -396,12 +705,82 @@ fn each_refusal_is_explained_and_its_slot_is_drawn_red() {
             slot,
             "the red slot, where {why}"
         );
+=======
+        assert_eq!((ran.stdout.lines().count(), ran.stderr.as_str(), ran.status), (2, "", 1));
+        assert_eq!(drawn_broken(&picture).concat(), slot, "the red slot, where {why}");
+        let why = why.replace('\'', "&apos;");
+>>>>>>> checker
         assert!(picture.contains(&format!(">refused with {number}: {why}</text>")));
     }
 }
 
 #[test]
+fn all_faults_of_rule_11_are_listed_and_drawn_red() {
+    let cases = [
+        (
+            &[("1 0 5 5 10", "1 0 6 5 10")][..],
+            &[
+                "slot 1: its next is 6, which is above the stack length 5",
+                "slot 5: its prev is 1, but the next of slot 1 is 6, not 5",
+                "2 faults at 2 slots",
+            ][..],
+            "15",
+        ),
+        (
+            &[("1 0 5 5 10", "1 0 3 5 10")],
+            &[
+                "slot 1: its next is 3, but slot 3 is free",
+                "slot 5: its prev is 1, but the next of slot 1 is 3, not 5",
+                "2 faults at 2 slots",
+            ],
+            "15",
+        ),
+        (
+            &[("2 4 4 5 20", "2 1 4 5 20")],
+            &[
+                "slot 2: its prev is 1, but the next of slot 1 is 5, not 2",
+                "slot 4: its next is 2, but the prev of slot 2 is 1, not 4",
+                "2 faults at 2 slots",
+            ],
+            "24",
+        ),
+        (
+            &[("1 0 5 5 10", "1 4 6 5 10"), ("5 1 0 5 50", "5 1 3 5 50")],
+            &[
+                "slot 1: its prev is 4, but the next of slot 4 is 2, not 1",
+                "slot 1: its next is 6, which is above the stack length 5",
+                "slot 5: its prev is 1, but the next of slot 1 is 6, not 5",
+                "slot 5: its next is 3, but slot 3 is free",
+                "4 faults at 2 slots",
+            ],
+            "15",
+        ),
+        (
+            &[("1 0 5 5 10", "1 4 6 5 10"), ("5 1 0 5 50", "5 0 0 5 50")],
+            &[
+                "slot 1: its prev is 4, but the next of slot 4 is 2, not 1",
+                "slot 1: its next is 6, which is above the stack length 5",
+                "2 faults at 1 slot",
+            ],
+            "1",
+        ),
+    ];
+    for (lines, said, slots) in cases {
+        let (ran, picture) = on_text("check", "faults.txt", changed(lines).as_bytes(), &[]);
+        let first = "faults.txt: refused with 11 at slot ";
+        assert!(ran.stdout.starts_with(&format!("{first}{}: ", &slots[..1])), "{}", ran.stdout);
+        let faults: Vec<&str> = ran.stdout.lines().skip(1).map(str::trim_start).collect();
+        assert_eq!((faults.as_slice(), ran.status), (said, 1));
+        assert_eq!(drawn_broken(&picture).concat(), slots);
+        let count = said.len() - 1;
+        assert!(picture.contains(&format!(">refused with 11: {} ({})</text>", said[0], said[count])));
+        assert!(said[..count].iter().all(|fault| picture.contains(fault)));
+    }
+}
+
+#[test]
 fn every_slot_of_the_stack_is_drawn_once() {
+<<<<<<< HEAD
     let (_, picture) = on_text(
         "check",
         "drawn.txt",
@@ -413,6 +792,13 @@ fn every_slot_of_the_stack_is_drawn_once() {
             1,
             "slot {slot}"
         );
+=======
+    let (_, picture) = on_text("check", "drawn.txt", &fs::read(arenas().join("whole.txt")).unwrap(), &[]);
+    for slot in 1..=9 {
+        let number = |text: &&str| text.contains(&format!(">{slot}</text>\n<text class=\"note\""));
+        let drawn = picture.split("<text class=\"number\"").filter(number);
+        assert_eq!(drawn.count(), 1, "slot {slot}");
+>>>>>>> checker
     }
     assert_eq!(picture.matches("<g class=\"slot\">").count(), 7);
     assert_eq!(picture.matches("<g class=\"slot free\">").count(), 2);
@@ -442,7 +828,7 @@ fn one_chain(slots: u32, closed: bool) -> String {
 #[test]
 fn a_large_arena_is_drawn_in_part() {
     for closed in [false, true] {
-        let (ran, picture) = on_text("check", "large.txt", one_chain(65_535, closed).as_bytes());
+        let (ran, picture) = on_text("check", "large.txt", one_chain(65_535, closed).as_bytes(), &[]);
         assert_eq!(ran.status, 0);
         assert!(ran.stdout.lines().all(|line| line.len() <= 110));
         assert_eq!(
@@ -452,7 +838,7 @@ fn a_large_arena_is_drawn_in_part() {
                 .count(),
             65_535 + 5
         );
-        assert!(picture.contains("The picture is cut: 600 of the stack's 65535 slots are drawn."));
+        assert!(picture.contains("The picture is cut: 600 of 65535 slots of the stack are drawn."));
         assert_eq!(picture.matches("<g class=\"slot\">").count(), 600);
     }
 }
@@ -460,9 +846,9 @@ fn a_large_arena_is_drawn_in_part() {
 #[test]
 fn the_broken_slot_of_a_large_arena_is_drawn() {
     let text = one_chain(65_535, false).replace("\n60000 59999 60001 5", "\n60000 59998 60001 5");
-    let (ran, picture) = on_text("check", "large_broken.txt", text.as_bytes());
+    let (ran, picture) = on_text("check", "large_broken.txt", text.as_bytes(), &[]);
     assert_eq!(ran.status, 1);
-    assert_eq!(drawn_broken(&picture), ["59999"]);
+    assert_eq!(drawn_broken(&picture), ["59999", "60000"]);
     let (ran, _) = on_text(
         "check",
         "too_large.txt",
@@ -472,6 +858,7 @@ fn the_broken_slot_of_a_large_arena_is_drawn() {
                 "\n65535 65534 0 5 65535\n65536 0 0 5 0\n",
             )
             .as_bytes(),
+        &[],
     );
     assert_eq!(
         ran.stdout.lines().nth(1),
@@ -482,11 +869,15 @@ fn the_broken_slot_of_a_large_arena_is_drawn() {
 #[cfg(feature = "level-three")]
 #[test]
 fn a_compression_is_drawn_before_and_after() {
+<<<<<<< HEAD
     let (ran, picture) = on_text(
         "compress",
         "both.txt",
         &fs::read(arenas().join("whole.txt")).unwrap(),
     );
+=======
+    let (ran, picture) = on_text("compress", "both.txt", &fs::read(arenas().join("whole.txt")).unwrap(), &[]);
+>>>>>>> checker
     assert_eq!(ran.status, 0);
     assert_eq!(picture.matches("<g class=\"slot\">").count(), 14);
     assert_eq!(picture.matches("<g class=\"slot free\">").count(), 2);
@@ -497,4 +888,75 @@ fn a_compression_is_drawn_before_and_after() {
             "from {from}"
         );
     }
+}
+
+/// The slots that are drawn as the one that is asked for.
+fn drawn_asked(picture: &str) -> Vec<&str> {
+    drawn_as(picture, "asked")
+}
+
+#[test]
+fn the_header_and_other_generations_are_drawn() {
+    let (_, picture) = on_text("check", "header.txt", &fs::read(arenas().join("whole.txt")).unwrap(), &[]);
+    let cells: Vec<&str> = picture.split("<g class=\"cell\">").skip(1).collect();
+    let names = ["stack length", "link count", "root", "current generation", "capacity"];
+    for (cell, (name, word)) in cells.iter().zip(names.into_iter().zip(["9", "7", "8", "5", "10"])) {
+        assert!(
+            cell.contains(&format!(">{name}</text>")) && cell.contains(&format!(">{word}</text>")),
+            "{cell}"
+        );
+    }
+    // Slots 5, 3 and 9 have other generations; that of every other link is 5.
+    assert_eq!(cells.len(), 5);
+    assert_eq!(picture.matches(">g ").count(), 3);
+    assert!([2, 3, 4].iter().all(|generation| picture.contains(&format!(">g {generation}</text>"))));
+    let (_, picture) = on_text("check", "short.txt", b"header 5 4 3", &[]);
+    assert_eq!((picture.matches("<g class=\"cell\">").count(), picture.matches(">missing<").count()), (5, 1));
+    let (_, picture) = on_text("check", "long.txt", format!("header{}", " 7".repeat(900)).as_bytes(), &[]);
+    assert_eq!(picture.matches("<g class=\"cell\">").count(), 9);
+    assert!(picture.contains(">word 7</text>") && picture.contains(">893</text>"));
+}
+
+#[test]
+fn lone_links_are_packed() {
+    let rows: String = (1..=23).map(|slot| format!("{slot} 0 0 5 {slot}\n")).collect();
+    let (ran, picture) = on_text("check", "lone.txt", format!("header 23 23 0 5\n{rows}").as_bytes(), &[]);
+    let said: Vec<&str> = ran.stdout.lines().skip(1).collect();
+    let expected =
+        ["  lone    1 2 3 4 5 6 7 8 9 10", "          11 12 13 14 15 16 17 18 19 20", "          21 22 23"];
+    assert_eq!(said, expected);
+    assert_eq!(picture.matches("<g class=\"slot\">").count(), 23);
+    assert_eq!((picture.matches("marker-end").count(), picture.matches(">lone</text>").count()), (0, 1));
+    let (ran, picture) =
+        on_text("check", "lone.txt", format!("header 23 23 0 5\n{rows}").as_bytes(), &["--around", "7"]);
+    assert_eq!(ran.stdout.lines().nth(1), Some("  lone    [7]"));
+    assert_eq!((picture.matches("<g class=\"slot").count(), drawn_asked(&picture)), (1, vec!["7"]));
+}
+
+#[test]
+fn a_long_chain_is_drawn_around_a_slot() {
+    for closed in [false, true] {
+        for slot in ["1", "40000", "65535"] {
+            let text = one_chain(65_535, closed);
+            let (ran, picture) = on_text("check", "around.txt", text.as_bytes(), &["--around", slot]);
+            assert_eq!((ran.stdout.matches(&format!("[{slot}]")).count(), ran.status), (1, 0));
+            assert_eq!(drawn_asked(&picture), [slot]);
+            let drawn = picture.matches("<g class=\"slot").count();
+            assert!((105..=110).contains(&drawn));
+            let note = format!("The picture is cut: {drawn} of 65535 slots of the chain are drawn.");
+            assert!(picture.contains(&note));
+        }
+    }
+}
+
+#[cfg(feature = "level-three")]
+#[test]
+fn the_chain_of_a_slot_is_drawn_before_and_after() {
+    let text = fs::read(arenas().join("whole.txt")).unwrap();
+    let (_, picture) = on_text("compress", "moved.txt", &text, &["--around", "2"]);
+    assert_eq!((picture.matches("<g class=\"slot").count(), drawn_asked(&picture)), (4, vec!["2", "5"]));
+    let (_, picture) = on_text("compress", "gone.txt", &text, &["--around", "6"]);
+    assert_eq!((picture.matches("<g class=\"slot").count(), drawn_asked(&picture)), (2, vec!["6"]));
+    let (ran, _) = on_text("compress", "away.txt", &text, &["--around", "10"]);
+    assert_eq!((ran.stdout.as_str(), ran.status), ("", 2));
 }

@@ -1,0 +1,111 @@
+//! An arena with what the check says of it.
+
+use chain_arena::{OwnedArena, Refusal};
+
+use crate::Shown;
+use crate::by_slot::BySlot;
+use crate::explain::{Why, explain};
+use crate::files::Source;
+use crate::format;
+use crate::panel::Panel;
+use crate::picture::Picture;
+
+/// An arena with what the check says of it, and the slot whose chain alone is shown, if not all is.
+pub struct Checked {
+    pub name: String,
+    pub arena: OwnedArena,
+    pub refused: Option<(Refusal, Why)>,
+    pub around: Option<u32>,
+}
+
+impl Checked {
+    /// Checks an arena.
+    pub fn new(name: String, arena: OwnedArena) -> Self {
+        let refused = arena.as_arena().check().err().map(|refusal| (refusal, explain(&arena, refusal)));
+        Self { name, arena, refused, around: None }
+    }
+
+    /// Checks the arena of a text; what is wrong with the text is told with its place.
+    pub fn parse(name: String, text: &[u8]) -> Result<Self, String> {
+        let arena = format::parse(text).map_err(|error| format!("{name}:{error}"))?;
+        Ok(Self::new(name, arena))
+    }
+
+    /// Checks the arena of a file.
+    pub fn read(source: &Source) -> Result<Self, String> {
+        Self::parse(source.name(), &source.read()?)
+    }
+
+    /// Shows only the chain of a slot, if one is given, which must be on the stack.
+    pub fn around(self, around: Option<u32>) -> Result<Self, String> {
+        match around.filter(|slot| !self.arena.stack().contains(slot)) {
+            Some(slot) => Err(format!(
+                "{}: slot {slot} is not on the stack, whose length is {}",
+                self.name,
+                self.arena.stack().count()
+            )),
+            None => Ok(Self { around, ..self }),
+        }
+    }
+
+    /// The rule that fails and why, or the chains. Where the chain of a slot is asked for, it is shown in either case.
+    pub fn text(&self) -> String {
+        match &self.refused {
+            Some((refusal, why)) => {
+                let rows = self.around.map(|_| self.rows()).unwrap_or_default();
+                format!("{}: {refusal}\n{}{rows}", self.name, why.text())
+            }
+            None => format!("{}: passes the check: {}\n{}", self.name, counts(&self.arena), self.rows()),
+        }
+    }
+
+    /// The rows that are shown.
+    pub fn rows(&self) -> String {
+        rows(&self.arena, self.around)
+    }
+
+    /// The arena to draw.
+    pub fn panel(&self) -> Panel {
+        let refused = self.refused.as_ref();
+        Panel {
+            title: self.name.clone(),
+            sentence: refused
+                .map(|(refusal, why)| format!("refused with {}: {}", refusal.number(), why.summary())),
+            arena: self.arena.clone(),
+            faults: refused.map(|(_, why)| why.faults.clone()).unwrap_or_default(),
+            where_from: Vec::new(),
+            around: self.around,
+        }
+    }
+
+    /// Says what the check says.
+    pub fn show(&self) -> Shown {
+        Shown { text: self.text(), panels: vec![self.panel()], passes: self.refused.is_none() }
+    }
+}
+
+/// The rows of an arena as text: all, or those with the chain of a slot, which is marked.
+pub fn rows(arena: &OwnedArena, around: Option<u32>) -> String {
+    let picture = Picture::of(arena);
+    match around {
+        Some(slot) => picture.around(slot).text(around),
+        None => picture.text(None),
+    }
+}
+
+/// What a whole arena holds, in numbers.
+fn counts(arena: &OwnedArena) -> String {
+    let free = arena.stack().filter(|&slot| arena.is_free(slot)).count();
+    format!("{}, {free} free slots, room for {} slots", chain_counts(arena), arena.capacity())
+}
+
+/// How many links and chains a whole arena holds.
+pub fn chain_counts(arena: &OwnedArena) -> String {
+    let picture = Picture::of(arena);
+    format!(
+        "{} links on {} open and {} closed chains",
+        arena.header().link_count,
+        picture.open_chains(),
+        picture.closed_chains(),
+    )
+}
