@@ -31,12 +31,7 @@ pub trait BySlot {
 impl BySlot for OwnedArena {
     fn header(&self) -> Header {
         let word = |place| self.header.get(place).copied().unwrap_or(0);
-        Header {
-            stack_length: word(0),
-            link_count: word(1),
-            root: word(2),
-            generation: word(3),
-        }
+        Header { stack_length: word(0), link_count: word(1), root: word(2), generation: word(3) }
     }
 
     fn stack(&self) -> std::ops::RangeInclusive<u32> {
@@ -62,8 +57,5 @@ impl BySlot for OwnedArena {
 
 /// The word of a column at a slot, 0 where it has none.
 fn at<T: Copy + Into<u32>>(column: &[T], slot: u32) -> u32 {
-    (slot as usize)
-        .checked_sub(1)
-        .and_then(|place| column.get(place))
-        .map_or(0, |&word| word.into())
+    (slot as usize).checked_sub(1).and_then(|place| column.get(place)).map_or(0, |&word| word.into())
 }

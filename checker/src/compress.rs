@@ -25,22 +25,12 @@ impl Compressed {
     /// Compresses a copy of the arena.
     pub fn of(before: &OwnedArena, how: How) -> Result<Self, Refusal> {
         let mut after = before.clone();
-<<<<<<< HEAD
-        let mut column = vec![0; before.capacity()];
-        let where_from = after
-            .as_arena_mut()
-            .compress_canonical(NewGeneration::Next, &mut column)?
-            .where_from
-            .to_vec();
-        Ok(Self { after, where_from })
-=======
         let generation = if how.reset { NewGeneration::Reset } else { NewGeneration::Next };
         let (where_from, overflowed) = match how.order_preserving {
             true => in_order(&mut after, generation)?,
             false => canonically(&mut after, generation)?,
         };
         Ok(Self { after, where_from, overflowed })
->>>>>>> checker
     }
 
     /// The slot that the link of an old slot is in now, none if that was free.
@@ -51,31 +41,13 @@ impl Compressed {
     /// A line for each slot that the stack had.
     fn table(&self, before: &OwnedArena) -> String {
         let names = cells(["prev", "next", "generation", "payload"]);
-        let mut text = format!(
-            "     |{:<39} |{:<39} |\nslot |{names} |{names} | where-from\n",
-            "  before", "  after"
-        );
+        let mut text =
+            format!("     |{:<39} |{:<39} |\nslot |{names} |{names} | where-from\n", "  before", "  after");
         for slot in before.stack() {
             let from = self.where_from.get(slot as usize - 1).copied().unwrap_or(0);
             let (old, new) = (words(before, slot), words(&self.after, slot));
             let _ = writeln!(text, "{slot:>4} |{old} |{new} | {from:>10}");
         }
-<<<<<<< HEAD
-        for (when, arena) in [("before", before), ("after", &self.after)] {
-            let Header {
-                stack_length,
-                link_count,
-                root,
-                generation,
-            } = arena.header();
-            let _ = writeln!(
-                text,
-                "{when}: stack length {stack_length}, link count {link_count}, root {root}, generation {generation}"
-            );
-            let _ = write!(text, "{}", Picture::of(arena));
-        }
-=======
->>>>>>> checker
         text
     }
 
@@ -146,12 +118,7 @@ fn header(arena: &OwnedArena) -> String {
 /// The words of a slot that are read: of a free slot only its next, above the stack none.
 fn words(a: &OwnedArena, slot: u32) -> String {
     if a.is_link(slot) {
-        cells([
-            a.prev(slot),
-            a.next(slot),
-            a.generation(slot),
-            a.payload(slot),
-        ])
+        cells([a.prev(slot), a.next(slot), a.generation(slot), a.payload(slot)])
     } else if a.is_free(slot) {
         cells(["-", &a.next(slot).to_string(), "free", "-"])
     } else {

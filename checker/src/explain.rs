@@ -19,24 +19,11 @@ pub struct Why {
 impl Why {
     /// A reason that lies with no single slot.
     fn whole(sentence: String) -> Self {
-<<<<<<< HEAD
-        Self {
-            slot: None,
-            sentence,
-        }
-=======
         Self { sentence, faults: Vec::new() }
->>>>>>> checker
     }
 
     /// A reason that lies with a slot.
     fn at(slot: u32, sentence: String) -> Self {
-<<<<<<< HEAD
-        Self {
-            slot: Some(slot),
-            sentence,
-        }
-=======
         Self::some(Some(slot), sentence)
     }
 
@@ -67,7 +54,6 @@ impl Why {
     fn count(&self) -> String {
         let slots = self.faults.chunk_by(|one, other| one.slot == other.slot).count();
         format!("{} faults at {slots} {}", self.faults.len(), if slots == 1 { "slot" } else { "slots" })
->>>>>>> checker
     }
 }
 
@@ -76,10 +62,9 @@ pub fn explain(a: &OwnedArena, refusal: Refusal) -> Why {
     let header = a.header();
     match refusal.number() {
         1 => Why::whole(shape(a)),
-        2 => Why::whole(format!(
-            "the current generation is {}, but it must be at least 2",
-            header.generation
-        )),
+        2 => {
+            Why::whole(format!("the current generation is {}, but it must be at least 2", header.generation))
+        }
         3 => Why::whole(over_capacity(a)),
         4 => Why::whole(format!(
             "the link count is {}, but {} of the stack's {} slots are links",
@@ -95,23 +80,14 @@ pub fn explain(a: &OwnedArena, refusal: Refusal) -> Why {
 
 /// Rule 1: lengths.
 fn shape(a: &OwnedArena) -> String {
-    let lengths = [
-        a.prev.len(),
-        a.next.len(),
-        a.generation.len(),
-        a.payload.len(),
-    ];
+    let lengths = [a.prev.len(), a.next.len(), a.generation.len(), a.payload.len()];
     let [prev, next, generation, payload] = lengths;
     if lengths.iter().any(|&length| length != prev) {
         format!(
             "the columns differ in length: prev has {prev} words, next {next}, generation {generation} and payload {payload}"
         )
     } else if a.header.len() != Header::WORDS {
-        format!(
-            "the header has {} words, but it must have {}",
-            a.header.len(),
-            Header::WORDS
-        )
+        format!("the header has {} words, but it must have {}", a.header.len(), Header::WORDS)
     } else {
         format!("the columns have {prev} words each, but the most is 65,535")
     }
@@ -132,22 +108,11 @@ fn over_capacity(a: &OwnedArena) -> String {
 fn root(a: &OwnedArena) -> Why {
     let root = a.header().root;
     match a.stack().find(|&slot| a.is_free(slot)) {
-<<<<<<< HEAD
-        Some(free) => Why::at(
-            free,
-            format!("there is no freelist root, but slot {free} is free"),
-        ),
-        None => Why {
-            slot: Some(root).filter(|&root| a.is_link(root)),
-            sentence: format!("the freelist root is {root}, but no slot is free"),
-        },
-=======
         Some(free) => Why::at(free, format!("there is no freelist root, but slot {free} is free")),
         None => Why::some(
             Some(root).filter(|&root| a.is_link(root)),
             format!("the freelist root is {root}, but no slot is free"),
         ),
->>>>>>> checker
     }
 }
 
@@ -163,34 +128,17 @@ fn freelist(a: &OwnedArena) -> Why {
             _ => format!("the freelist comes from slot {from} to {slot}"),
         };
         if slot == 0 {
-            return Why::at(
-                from,
-                format!("{comes}, but its last slot must point at itself"),
-            );
+            return Why::at(from, format!("{comes}, but its last slot must point at itself"));
         }
         if slot > header.stack_length {
-<<<<<<< HEAD
-            let above = format!(
-                "{comes}, which is above the stack length {}",
-                header.stack_length
-            );
-            return Why {
-                slot: Some(from).filter(|&from| from != 0),
-                sentence: above,
-            };
-=======
             let above = format!("{comes}, which is above the stack length {}", header.stack_length);
             return Why::some(Some(from).filter(|&from| from != 0), above);
->>>>>>> checker
         }
         if a.is_link(slot) {
             return Why::at(slot, format!("{comes}, but slot {slot} is a link"));
         }
         if visited[slot as usize] {
-            return Why::at(
-                from,
-                format!("{comes} again, and none of its slots points at itself"),
-            );
+            return Why::at(from, format!("{comes} again, and none of its slots points at itself"));
         }
         visited[slot as usize] = true;
         count += 1;
@@ -205,10 +153,7 @@ fn freelist(a: &OwnedArena) -> Why {
 fn missed(a: &OwnedArena, last: u32, count: usize, visited: &[bool]) -> Why {
     let free = a.stack().filter(|&slot| a.is_free(slot));
     let all = free.clone().count();
-    let missed = free
-        .clone()
-        .find(|&slot| !visited[slot as usize])
-        .unwrap_or(0);
+    let missed = free.clone().find(|&slot| !visited[slot as usize]).unwrap_or(0);
     Why::at(
         missed,
         format!(
@@ -217,25 +162,6 @@ fn missed(a: &OwnedArena, last: u32, count: usize, visited: &[bool]) -> Why {
     )
 }
 
-<<<<<<< HEAD
-/// Rule 11: what is wrong with a link's prev, else with its next.
-fn interlink(a: &OwnedArena, slot: u32) -> Why {
-    let wrong = side(
-        a,
-        slot,
-        ("prev", a.prev(slot)),
-        ("next", a.next(a.prev(slot))),
-    )
-    .or_else(|| {
-        side(
-            a,
-            slot,
-            ("next", a.next(slot)),
-            ("prev", a.prev(a.next(slot))),
-        )
-    });
-    Why::at(slot, format!("slot {slot}: {}", wrong.unwrap_or_default()))
-=======
 /// Rule 11: what is wrong with each link's prev, and with its next.
 fn interlinks(a: &OwnedArena) -> Why {
     let faults: Vec<Fault> =
@@ -249,7 +175,6 @@ fn interlink(a: &OwnedArena, slot: u32) -> impl Iterator<Item = Fault> {
     let next = side(a, slot, ("next", a.next(slot)), ("prev", a.prev(a.next(slot))));
     let fault = move |wrong| Fault { slot, sentence: format!("slot {slot}: {wrong}") };
     prev.into_iter().chain(next).map(fault)
->>>>>>> checker
 }
 
 /// What is wrong with a link's neighbour on one side, which must name the link back on the other side.
@@ -263,21 +188,13 @@ fn side(
     if neighbour == 0 {
         None
     } else if neighbour > stack {
-        Some(format!(
-            "its {name} is {neighbour}, which is above the stack length {stack}"
-        ))
+        Some(format!("its {name} is {neighbour}, which is above the stack length {stack}"))
     } else if a.is_free(neighbour) {
-        Some(format!(
-            "its {name} is {neighbour}, but slot {neighbour} is free"
-        ))
+        Some(format!("its {name} is {neighbour}, but slot {neighbour} is free"))
     } else if named == 0 {
-        Some(format!(
-            "its {name} is {neighbour}, but slot {neighbour} has no {back}"
-        ))
+        Some(format!("its {name} is {neighbour}, but slot {neighbour} has no {back}"))
     } else if named != slot {
-        Some(format!(
-            "its {name} is {neighbour}, but the {back} of slot {neighbour} is {named}, not {slot}"
-        ))
+        Some(format!("its {name} is {neighbour}, but the {back} of slot {neighbour} is {named}, not {slot}"))
     } else {
         None
     }
@@ -305,10 +222,7 @@ mod tests {
     /// Calls `look` with every arena of two slots whose words are small.
     fn every_small_arena(mut look: impl FnMut(&OwnedArena)) {
         let rows: Vec<[u32; 3]> = (0..32).map(|k| [k % 4, k / 4 % 4, k / 16 * 5]).collect();
-        for (one, two) in rows
-            .iter()
-            .flat_map(|one| rows.iter().map(move |two| (one, two)))
-        {
+        for (one, two) in rows.iter().flat_map(|one| rows.iter().map(move |two| (one, two))) {
             for k in 0..128 {
                 look(&OwnedArena {
                     prev: vec![one[0] as u16, two[0] as u16],
@@ -325,36 +239,20 @@ mod tests {
     fn every_small_arena_is_explained_by_the_rule_that_fails() {
         let mut seen = [0; 12];
         every_small_arena(|a| {
-            let Err(refusal) = a.as_arena().check() else {
-                return seen[0] += 1;
-            };
+            let Err(refusal) = a.as_arena().check() else { return seen[0] += 1 };
             let number = refusal.number() as usize;
             seen[number] += 1;
             let why = explain(a, refusal);
-            assert!(
-                why.sentence.contains(KEY[number - 2]),
-                "{refusal} of {a:?}: {why:?}"
-            );
+            assert!(why.sentence.contains(KEY[number - 2]), "{refusal} of {a:?}: {why:?}");
             assert!(!why.sentence.ends_with(": "), "{refusal} of {a:?}: {why:?}");
             assert!(
-<<<<<<< HEAD
-                why.slot.is_none_or(|slot| a.stack().contains(&slot)),
-                "{refusal} of {a:?}: {why:?}"
-            );
-=======
                 why.faults.iter().all(|fault| a.stack().contains(&fault.slot)),
                 "{refusal} of {a:?}: {why:?}"
             );
             assert!(why.faults.is_sorted_by_key(|fault| fault.slot), "{refusal} of {a:?}: {why:?}");
             assert!(why.faults.first().is_none_or(|fault| fault.sentence == why.sentence));
->>>>>>> checker
         });
-        assert!(
-            seen.iter()
-                .enumerate()
-                .all(|(number, &count)| count > 0 || number == 1),
-            "{seen:?}"
-        );
+        assert!(seen.iter().enumerate().all(|(number, &count)| count > 0 || number == 1), "{seen:?}");
     }
 
     /// The sides of links at which rule 11 fails, as REFERENCE, Check tells it.
@@ -390,11 +288,7 @@ mod tests {
     #[test]
     fn every_slot_of_every_small_arena_is_in_one_row() {
         every_small_arena(|a| {
-            let mut slots: Vec<u32> = Picture::of(a)
-                .rows
-                .into_iter()
-                .flat_map(|row| row.slots)
-                .collect();
+            let mut slots: Vec<u32> = Picture::of(a).rows.into_iter().flat_map(|row| row.slots).collect();
             slots.sort_unstable();
             assert!(slots.into_iter().eq(a.stack()), "{a:?}");
         });

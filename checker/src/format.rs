@@ -23,32 +23,16 @@ pub struct ParseError {
 
 impl fmt::Display for ParseError {
     fn fmt(&self, f: &mut fmt::Formatter<'_>) -> fmt::Result {
-<<<<<<< HEAD
-        write!(
-            f,
-            "{}:{}: expected {}",
-            self.line, self.column, self.expected
-        )
-=======
         let Self { line, column, found, expected } = self;
         write!(f, "{line}:{column}: found {found}, expected {expected}")
->>>>>>> checker
     }
 }
 
 /// The arena of a file's bytes.
 pub fn parse(bytes: &[u8]) -> Result<OwnedArena, ParseError> {
-<<<<<<< HEAD
-    let text = str::from_utf8(bytes).map_err(|error| not_text(&bytes[..error.valid_up_to()]))?;
-    let mut lines = text
-        .lines()
-        .enumerate()
-        .map(|(k, text)| Line::new(k + 1, text));
-=======
     let bytes = bytes.strip_prefix(BYTE_ORDER_MARK).unwrap_or(bytes);
     let text = str::from_utf8(bytes).map_err(|error| not_text(bytes, error.valid_up_to()))?;
     let mut lines = text.lines().enumerate().map(|(k, text)| Line::new(k + 1, text));
->>>>>>> checker
     let mut arena = OwnedArena::default();
     match lines.find(|line| !line.is_empty()) {
         Some(line) => arena.header = header(line)?,
@@ -72,18 +56,12 @@ fn header(mut line: Line<'_>) -> Result<Vec<u32>, ParseError> {
 
 /// Adds the words of a line `SLOT PREV NEXT GENERATION PAYLOAD`.
 fn row(mut line: Line<'_>, slot: usize, arena: &mut OwnedArena) -> Result<(), ParseError> {
-    line.word(&format!("slot {slot}"), |word| {
-        decimal(word).filter(|&number| number == slot as u64)
-    })?;
+    line.word(&format!("slot {slot}"), |word| decimal(word).filter(|&number| number == slot as u64))?;
     line.entry("prev", slot, u16::MAX, &mut arena.prev)?;
     line.entry("next", slot, u16::MAX, &mut arena.next)?;
     line.entry("generation", slot, u32::MAX, &mut arena.generation)?;
     line.entry("payload", slot, u32::MAX, &mut arena.payload)?;
-    if line.is_empty() {
-        Ok(())
-    } else {
-        Err(line.error("the end of the line"))
-    }
+    if line.is_empty() { Ok(()) } else { Err(line.error("the end of the line")) }
 }
 
 /// A line of which the first words are read already.
@@ -98,11 +76,7 @@ impl<'t> Line<'t> {
     /// A line without its comment.
     fn new(number: usize, text: &'t str) -> Self {
         let text = text.split('#').next().unwrap_or_default().trim_end();
-        let mut line = Self {
-            number,
-            text,
-            read: 0,
-        };
+        let mut line = Self { number, text, read: 0 };
         line.skip(0);
         line
     }
@@ -124,52 +98,25 @@ impl<'t> Line<'t> {
     }
 
     /// The next word as `read` takes it, else an error that tells what was expected.
-<<<<<<< HEAD
-    fn word<T>(
-        &mut self,
-        expected: &str,
-        read: impl FnOnce(&'t str) -> Option<T>,
-    ) -> Result<T, ParseError> {
-        let word = self.text[self.read..]
-            .split_whitespace()
-            .next()
-            .unwrap_or_default();
-=======
     fn word<T>(&mut self, expected: &str, read: impl FnOnce(&'t str) -> Option<T>) -> Result<T, ParseError> {
         let word = self.peek();
->>>>>>> checker
         let value = read(word).ok_or_else(|| self.error(expected))?;
         self.skip(word.len());
         Ok(value)
     }
 
     /// The next word as a number.
-    fn number<T: TryFrom<u64> + fmt::Display>(
-        &mut self,
-        name: &str,
-        largest: T,
-    ) -> Result<T, ParseError> {
-        self.word(&format!("{name}, a number from 0 to {largest}"), |word| {
-            T::try_from(decimal(word)?).ok()
-        })
+    fn number<T: TryFrom<u64> + fmt::Display>(&mut self, name: &str, largest: T) -> Result<T, ParseError> {
+        self.word(&format!("{name}, a number from 0 to {largest}"), |word| T::try_from(decimal(word)?).ok())
     }
 
     /// Adds the next word to a column. A `-` adds nothing, and then every further one must be a `-` too.
-    fn entry<T>(
-        &mut self,
-        name: &str,
-        slot: usize,
-        largest: T,
-        column: &mut Vec<T>,
-    ) -> Result<(), ParseError>
+    fn entry<T>(&mut self, name: &str, slot: usize, largest: T, column: &mut Vec<T>) -> Result<(), ParseError>
     where
         T: TryFrom<u64> + fmt::Display,
     {
         if column.len() + 1 < slot {
-            let ended = format!(
-                "`-`, since the {name} column ended before slot {}",
-                column.len() + 1
-            );
+            let ended = format!("`-`, since the {name} column ended before slot {}", column.len() + 1);
             return self.word(&ended, |word| (word == "-").then_some(()));
         }
         let expected = format!("the {name} of slot {slot}, a number from 0 to {largest} or `-`");
@@ -185,37 +132,15 @@ impl<'t> Line<'t> {
     fn error(&self, expected: &str) -> ParseError {
         let found = if self.is_empty() { "the end of the line".to_string() } else { quoted(self.peek()) };
         let column = self.text[..self.read].chars().count() + 1;
-<<<<<<< HEAD
-        ParseError {
-            line: self.number,
-            column,
-            expected: expected.to_string(),
-        }
-=======
         ParseError { line: self.number, column, found, expected: expected.to_string() }
->>>>>>> checker
     }
 }
 
 /// The number of a word of decimal digits.
 fn decimal(word: &str) -> Option<u64> {
-    word.bytes()
-        .all(|byte| byte.is_ascii_digit())
-        .then(|| word.parse().ok())?
+    word.bytes().all(|byte| byte.is_ascii_digit()).then(|| word.parse().ok())?
 }
 
-<<<<<<< HEAD
-/// The error that the bytes after these are no text.
-fn not_text(before: &[u8]) -> ParseError {
-    let before = String::from_utf8_lossy(before);
-    let last = before.rsplit('\n').next().unwrap_or_default();
-    let line = before.matches('\n').count() + 1;
-    ParseError {
-        line,
-        column: last.chars().count() + 1,
-        expected: "UTF-8 text".to_string(),
-    }
-=======
 /// The line and column behind the end of a text.
 fn end_of(text: &str) -> (usize, usize) {
     let last = text.rsplit('\n').next().unwrap_or_default();
@@ -231,20 +156,10 @@ fn not_text(bytes: &[u8], place: usize) -> ParseError {
     };
     let found = format!("the byte {:#04x}", bytes[place]);
     ParseError { line, column, found, expected: format!("UTF-8 text{hint}") }
->>>>>>> checker
 }
 
 /// The error that the text ends before its header.
 fn no_header(text: &str) -> ParseError {
-<<<<<<< HEAD
-    let line = text.lines().count() + 1;
-    ParseError {
-        line,
-        column: 1,
-        expected: "`header`, but the text ends".to_string(),
-    }
-=======
     let (line, column) = end_of(text);
     ParseError { line, column, found: "the end of the text".to_string(), expected: "`header`".to_string() }
->>>>>>> checker
 }

@@ -28,20 +28,11 @@ use std::env;
 use std::io::{self, ErrorKind, Write};
 use std::process::ExitCode;
 
-<<<<<<< HEAD
-use chain_arena::{OwnedArena, Refusal};
-
-use by_slot::BySlot;
-use explain::{Why, explain};
-use panel::{Fault, Panel};
-use picture::{Kind, Picture};
-=======
 use arguments::{Asked, Command, How, Job};
 use checked::Checked;
 use panel::Panel;
 #[cfg(feature = "level-three")]
 use {compare::compare, compress::compress};
->>>>>>> checker
 
 const USAGE: &str = "\
 usage: checker [COMMAND] [OPTION]..
@@ -77,131 +68,7 @@ const DRAWINGS: &[(&str, Draw)] = &[("--svg", svg::draw)];
 const WHOLE: &str = include_str!("../arenas/k11.txt");
 const BROKEN: &str = include_str!("../arenas/broken.txt");
 
-<<<<<<< HEAD
-/// What is asked for.
-enum Request {
-    Check(PathBuf),
-    Compress(PathBuf),
-    Samples,
-}
-
-/// The request and where to draw it, none if the arguments are wrong.
-fn request(mut arguments: impl Iterator<Item = OsString>) -> Option<(Request, Option<PathBuf>)> {
-    let mut words = Vec::new();
-    let mut out = None;
-    while let Some(word) = arguments.next() {
-        if word != "--svg" {
-            words.push(word);
-        } else if out.replace(arguments.next()?.into()).is_some() {
-            return None;
-        }
-    }
-    let request = match words.as_slice() {
-        [] => Request::Samples,
-        [name, file] if name == "check" => Request::Check(file.into()),
-        [name, file] if name == "compress" => Request::Compress(file.into()),
-        _ => return None,
-    };
-    Some((request, out))
-}
-
-/// An arena with what the check says of it.
-struct Checked {
-    name: String,
-    arena: OwnedArena,
-    refused: Option<(Refusal, Why)>,
-}
-
-impl Checked {
-    /// Checks an arena.
-    fn new(name: &str, arena: OwnedArena) -> Self {
-        let refused = arena
-            .as_arena()
-            .check()
-            .err()
-            .map(|refusal| (refusal, explain(&arena, refusal)));
-        Self {
-            name: name.to_string(),
-            arena,
-            refused,
-        }
-    }
-
-    /// Checks the arena of a text; what is wrong with the text is told with its place.
-    fn parse(name: &str, text: &[u8]) -> Result<Self, String> {
-        let arena = format::parse(text).map_err(|error| format!("{name}:{error}\n"))?;
-        Ok(Self::new(name, arena))
-    }
-
-    /// Checks the arena of a file.
-    fn read(file: &Path) -> Result<Self, String> {
-        let name = file.display().to_string();
-        let text = fs::read(file).map_err(|error| format!("{name}: {error}\n"))?;
-        Self::parse(&name, &text)
-    }
-
-    /// The rule that fails and why, or the chains.
-    fn text(&self) -> String {
-        match &self.refused {
-            Some((refusal, why)) => format!("{}: {refusal}\n  {}\n", self.name, why.sentence),
-            None => {
-                let picture = Picture::of(&self.arena);
-                format!(
-                    "{}: passes the check: {}\n{picture}",
-                    self.name,
-                    counts(&self.arena, &picture)
-                )
-            }
-        }
-    }
-
-    /// The arena to draw.
-    fn panel(&self) -> Panel {
-        let why = self.refused.as_ref().map(|(_, why)| why);
-        let fault = |why: &Why| {
-            why.slot.map(|slot| Fault {
-                slot,
-                sentence: why.sentence.clone(),
-            })
-        };
-        Panel {
-            title: self.name.clone(),
-            sentence: self.refused.as_ref().map(|(refusal, why)| {
-                format!("refused with {}: {}", refusal.number(), why.sentence)
-            }),
-            arena: self.arena.clone(),
-            faults: why.and_then(fault).into_iter().collect(),
-            where_from: Vec::new(),
-        }
-    }
-
-    /// Says what the check says.
-    fn show(&self) -> Shown {
-        Shown {
-            text: self.text(),
-            panels: vec![self.panel()],
-            passes: self.refused.is_none(),
-        }
-    }
-}
-
-/// What a whole arena holds, in numbers.
-fn counts(arena: &OwnedArena, picture: &Picture) -> String {
-    let header = arena.header();
-    format!(
-        "{} links on {} open and {} closed chains, {} free slots, room for {} slots",
-        header.link_count,
-        picture.count(Kind::Open),
-        picture.count(Kind::Closed),
-        header.stack_length - header.link_count,
-        arena.capacity(),
-    )
-}
-
-/// What is said and drawn, and whether the arena that was asked for passes the check.
-=======
 /// What is said and drawn, and whether the status is 0.
->>>>>>> checker
 struct Shown {
     text: String,
     panels: Vec<Panel>,
@@ -213,28 +80,6 @@ impl Shown {
     fn text(text: &str) -> Self {
         Self { text: text.to_string(), panels: Vec::new(), passes: true }
     }
-<<<<<<< HEAD
-    let compressed = compress::Compressed::of(&checked.arena)
-        .map_err(|refusal| format!("{}: {refusal}\n", checked.name))?;
-    let text = format!(
-        "{}, compressed:\n{}",
-        checked.name,
-        compressed.table(&checked.arena)
-    );
-    let after = Panel {
-        title: format!("{}, compressed", checked.name),
-        sentence: None,
-        arena: compressed.after,
-        faults: Vec::new(),
-        where_from: compressed.where_from,
-    };
-    Ok(Shown {
-        text,
-        panels: vec![checked.panel(), after],
-        passes: true,
-    })
-=======
->>>>>>> checker
 }
 
 /// Level Three is not linked.
@@ -251,19 +96,10 @@ fn compare(_: &Checked, _: &Checked) -> Result<Shown, String> {
 
 /// Checks and compresses the whole arena of its own, and checks the broken one.
 fn samples() -> Result<Shown, String> {
-<<<<<<< HEAD
-    let whole = Checked::parse("K11", WHOLE.as_bytes())?;
-    let broken = Checked::parse("a broken arena", BROKEN.as_bytes())?.show();
-    let compressed = compress(&whole).unwrap_or_else(|message| Shown {
-        text: message,
-        ..whole.show()
-    });
-=======
     let whole = Checked::parse("K11".to_string(), WHOLE.as_bytes())?;
     let broken = Checked::parse("a broken arena".to_string(), BROKEN.as_bytes())?.show();
     let compressed = compress(&whole, How::default())
         .unwrap_or_else(|message| Shown { text: message + "\n", ..whole.show() });
->>>>>>> checker
     Ok(Shown {
         text: [whole.text(), compressed.text, broken.text].join("\n"),
         panels: compressed.panels.into_iter().chain(broken.panels).collect(),
@@ -280,16 +116,10 @@ fn done(job: Job) -> Result<Shown, String> {
         Command::Compare(a, b) => compare(&Checked::read(a)?, &Checked::read(b)?)?,
         Command::Samples => samples()?,
     };
-<<<<<<< HEAD
-    if let Some(out) = out {
-        fs::write(&out, svg::draw(&shown.panels))
-            .map_err(|error| format!("{}: {error}\n", out.display()))?;
-=======
     for target in &job.targets {
         for (_, draw) in DRAWINGS.iter().filter(|(option, _)| *option == target.option) {
             target.write(&draw(&shown.panels))?;
         }
->>>>>>> checker
     }
     Ok(shown)
 }
@@ -314,22 +144,9 @@ fn print(text: &str) -> Result<(), Option<String>> {
 }
 
 fn main() -> ExitCode {
-<<<<<<< HEAD
-    // A reader that has gone away, such as `head`, is no failure of ours.
-    match answer(env::args_os().skip(1)) {
-        Ok(shown) => {
-            let _ = io::stdout().write_all(shown.text.as_bytes());
-            if shown.passes {
-                ExitCode::SUCCESS
-            } else {
-                ExitCode::from(1)
-            }
-        }
-=======
     let printed = answer().map_err(Some).and_then(|shown| print(&shown.text).map(|()| shown.passes));
     match printed {
         Ok(passes) => ExitCode::from(u8::from(!passes)),
->>>>>>> checker
         Err(message) => {
             let _ =
                 io::stderr().write_all(message.map(|message| message + "\n").unwrap_or_default().as_bytes());

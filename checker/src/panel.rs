@@ -29,9 +29,7 @@ pub struct Fault {
 impl Panel {
     /// Whether something is wrong at a slot.
     pub fn is_broken(&self, slot: u32) -> bool {
-        self.faults
-            .binary_search_by_key(&slot, |fault| fault.slot)
-            .is_ok()
+        self.faults.binary_search_by_key(&slot, |fault| fault.slot).is_ok()
     }
 
     /// All that is wrong at a slot.

@@ -89,33 +89,13 @@ impl Picture {
         for &slot in &chained {
             if !drawn[slot as usize] {
                 let slots = follow(slot, &mut drawn, |slot| after(a, slot));
-<<<<<<< HEAD
-                rows.push(Row {
-                    kind: Kind::Closed,
-                    slots,
-                    wrong_prev: None,
-                    wrong_next: None,
-                });
-=======
                 rows.push(Row::whole(Kind::Closed, slots));
->>>>>>> checker
             }
         }
         rows.extend(Some(Row::whole(Kind::Lone, lone)).filter(|row| !row.slots.is_empty()));
         rows.extend(freelist(a, &mut drawn));
         let slots: Vec<u32> = a.stack().filter(|&slot| !drawn[slot as usize]).collect();
-<<<<<<< HEAD
-        if !slots.is_empty() {
-            rows.push(Row {
-                kind: Kind::Unlisted,
-                slots,
-                wrong_prev: None,
-                wrong_next: None,
-            });
-        }
-=======
         rows.extend(Some(Row::whole(Kind::Unlisted, slots)).filter(|row| !row.slots.is_empty()));
->>>>>>> checker
         Self { rows }
     }
 
@@ -216,9 +196,7 @@ fn freelist(a: &OwnedArena, drawn: &mut [bool]) -> Option<Row> {
         return None;
     }
     let slots = if a.is_free(root) {
-        follow(root, drawn, |slot| {
-            Some(a.next(slot)).filter(|&next| a.is_free(next))
-        })
+        follow(root, drawn, |slot| Some(a.next(slot)).filter(|&next| a.is_free(next)))
     } else {
         Vec::new()
     };
@@ -226,12 +204,7 @@ fn freelist(a: &OwnedArena, drawn: &mut [bool]) -> Option<Row> {
         Some(&last) => Some(a.next(last)).filter(|&next| next != last),
         None => Some(root),
     };
-    Some(Row {
-        kind: Kind::Freelist,
-        slots,
-        wrong_prev: None,
-        wrong_next,
-    })
+    Some(Row { kind: Kind::Freelist, slots, wrong_prev: None, wrong_next })
 }
 
 /// The next of a link, if that is a link that names it back.
@@ -255,35 +228,3 @@ fn follow(first: u32, drawn: &mut [bool], onward: impl Fn(u32) -> Option<u32>) -
     }
     slots
 }
-<<<<<<< HEAD
-
-/// Writes the row's name and its slots with arrows between them, on as many lines as it needs. Wrong pointers are left out:
-/// only whole arenas are shown as text.
-impl fmt::Display for Row {
-    fn fmt(&self, f: &mut fmt::Formatter<'_>) -> fmt::Result {
-        let back = self
-            .slots
-            .first()
-            .filter(|_| self.kind == Kind::Closed)
-            .map(|first| format!("({first})"));
-        let words = self.slots.iter().map(u32::to_string).chain(back);
-        let mut line = format!("  {:<8}", self.kind.name());
-        for (k, word) in words.enumerate() {
-            if line.len() + 4 + word.len() > WIDTH {
-                writeln!(f, "{line}")?;
-                line = " ".repeat(10);
-            }
-            line += if k == 0 { "" } else { " -> " };
-            line += &word;
-        }
-        writeln!(f, "{}", line.trim_end())
-    }
-}
-
-impl fmt::Display for Picture {
-    fn fmt(&self, f: &mut fmt::Formatter<'_>) -> fmt::Result {
-        self.rows.iter().try_for_each(|row| row.fmt(f))
-    }
-}
-=======
->>>>>>> checker

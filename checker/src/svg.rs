@@ -62,32 +62,12 @@ const ARROWS: [(&str, &str); 3] = [("next", "#222"), ("freelist", "#999"), ("wro
 
 /// Draws the panels below each other.
 pub fn draw(panels: &[Panel]) -> String {
-<<<<<<< HEAD
-    let mut drawing = Drawing {
-        body: String::new(),
-        y: MARGIN,
-        width: 0,
-    };
-    for panel in panels {
-        drawing.panel(panel);
-    }
-    drawing.text(
-        "note",
-        "Each box is a slot, its payload below the number; the arrows are next.",
-    );
-    let Drawing {
-        body,
-        y: height,
-        width,
-    } = drawing;
-=======
     let mut drawing = Drawing { body: String::new(), y: MARGIN, width: 0, box_height: BOX_HEIGHT };
     for panel in panels {
         drawing.panel(panel);
     }
     drawing.text("note", NOTE);
     let Drawing { body, y: height, width, .. } = drawing;
->>>>>>> checker
     let tips = ARROWS.map(|(name, colour)| tip(name, colour)).concat();
     format!(
         r##"<svg xmlns="http://www.w3.org/2000/svg" width="{width}" height="{height}" viewBox="0 0 {width} {height}">
@@ -135,11 +115,7 @@ impl<'a> Line<'a> {
 
     /// The class of the arrows between its slots.
     fn arrow(&self) -> &'static str {
-        if self.row.kind == Kind::Freelist {
-            "freelist"
-        } else {
-            "next"
-        }
+        if self.row.kind == Kind::Freelist { "freelist" } else { "next" }
     }
 
     /// Where its last box ends, or the name of a row without boxes.
@@ -153,21 +129,9 @@ impl<'a> Line<'a> {
 
 /// The lines of a row; one without boxes where the row has no slots.
 fn lines(row: &Row) -> impl Iterator<Item = Line<'_>> {
-    (0..row.slots.len().max(1))
-        .step_by(BOXES)
-        .map(move |from| Line { row, from })
+    (0..row.slots.len().max(1)).step_by(BOXES).map(move |from| Line { row, from })
 }
 
-<<<<<<< HEAD
-/// As many lines as are drawn: around the broken slot, else the first.
-fn around<'l, 'a>(all: &'l [Line<'a>], broken: Option<u32>) -> &'l [Line<'a>] {
-    let is_broken = |line: &Line<'_>| broken.is_some_and(|slot| line.slots().contains(&slot));
-    let middle = all.iter().position(is_broken).unwrap_or(0);
-    let first = middle
-        .saturating_sub(LINES / 2)
-        .min(all.len().saturating_sub(LINES));
-    &all[first..all.len().min(first + LINES)]
-=======
 /// At most so many lines: around the one with a slot, else the first ones.
 fn window<'l, 'a>(all: &'l [Line<'a>], most: usize, slot: Option<u32>) -> &'l [Line<'a>] {
     let has_it = |line: &Line<'_>| slot.is_some_and(|slot| line.slots().contains(&slot));
@@ -235,7 +199,6 @@ fn escape(text: &str) -> String {
         }
     }
     escaped
->>>>>>> checker
 }
 
 /// The left edge of the box at a place of its line.
@@ -305,13 +268,7 @@ impl Drawing {
                 self.row_start(line);
             }
             if line.is_last() {
-<<<<<<< HEAD
-                let row_start = k
-                    .checked_sub(line.from / BOXES)
-                    .map(|first| top + first * LINE_HEIGHT);
-=======
                 let row_start = Some(top + first * step).filter(|_| lines[first].is_first());
->>>>>>> checker
                 self.row_end(line, row_start);
             } else {
                 self.row_goes_on(line, lines.get(k + 1).is_some_and(of_row));
@@ -354,26 +311,13 @@ impl Drawing {
                 self.label("wrong", right + 26, middle + 5, &next.to_string());
             }
             (None, Kind::Closed, Some(start)) => {
-<<<<<<< HEAD
-                let (below, left, to) = (
-                    self.y + BOX_HEIGHT + RETURN,
-                    LEFT - 22,
-                    start + BOX_HEIGHT / 2,
-                );
-=======
                 let (below, left) = (self.y + self.box_height + RETURN, LEFT - 22);
                 let to = start + self.box_height / 2;
->>>>>>> checker
                 self.arrow("next", right, &format!("h12V{below}H{left}V{to}H{LEFT}"));
             }
             (None, Kind::Closed, None) => {
                 self.arrow("next", right, "h22");
-                self.label(
-                    "note",
-                    right + 26,
-                    middle + 4,
-                    &format!("back to {}", line.row.slots[0]),
-                );
+                self.label("note", right + 26, middle + 4, &format!("back to {}", line.row.slots[0]));
             }
             (None, Kind::Freelist, _) => {
                 self.arrow("freelist", right, &format!("h12V{}h-26v8", self.y - 8));
@@ -384,21 +328,6 @@ impl Drawing {
 
     /// What leads from the end of a line to the row's next one, if that is drawn.
     fn row_goes_on(&mut self, line: &Line<'_>, drawn: bool) {
-<<<<<<< HEAD
-        let (below, left, to) = (
-            self.y + BOX_HEIGHT + RETURN,
-            LEFT - 12,
-            self.middle() + LINE_HEIGHT,
-        );
-        match (line.row.kind, drawn) {
-            (Kind::Unlisted, _) => {}
-            (_, true) => self.arrow(
-                line.arrow(),
-                line.right(),
-                &format!("h12V{below}H{left}V{to}H{LEFT}"),
-            ),
-            (_, false) => self.arrow(line.arrow(), line.right(), "h24"),
-=======
         let (below, left) = (self.y + self.box_height + RETURN, LEFT - 12);
         let to = self.middle() + self.box_height + GAP;
         match (line.row.kind.is_linked(), drawn) {
@@ -411,24 +340,14 @@ impl Drawing {
                 let next = line.row.slots[line.from + BOXES];
                 self.label("note", line.right() + 26, self.middle() + 4, &format!("on to {next}"));
             }
->>>>>>> checker
         }
     }
 
     /// Draws the boxes of a line with the arrows between them.
     fn boxes(&mut self, panel: &Panel, line: &Line<'_>) {
         for (place, &slot) in line.slots().iter().enumerate() {
-<<<<<<< HEAD
-            if place > 0 && line.row.kind != Kind::Unlisted {
-                self.arrow(
-                    line.arrow(),
-                    x_of(place) - (STEP - BOX_WIDTH),
-                    &format!("H{}", x_of(place)),
-                );
-=======
             if place > 0 && line.row.kind.is_linked() {
                 self.arrow(line.arrow(), x_of(place) - (STEP - BOX_WIDTH), &format!("H{}", x_of(place)));
->>>>>>> checker
             }
             self.slot(panel, slot, x_of(place));
         }
@@ -450,11 +369,7 @@ impl Drawing {
         self.body +=
             &format!("<rect x=\"{x}\" y=\"{y}\" width=\"{BOX_WIDTH}\" height=\"{height}\" rx=\"4\"/>");
         self.label("number", centre, y + 17, &slot.to_string());
-        let payload = if free {
-            "free".to_string()
-        } else {
-            panel.arena.payload(slot).to_string()
-        };
+        let payload = if free { "free".to_string() } else { panel.arena.payload(slot).to_string() };
         self.label("note", centre, y + 33, &payload);
         if has_other_generation(panel, slot) {
             self.label("note", centre, y + 48, &format!("g {}", panel.arena.generation(slot)));
@@ -469,9 +384,8 @@ impl Drawing {
     /// An arrow from a place of the line at hand.
     fn arrow(&mut self, class: &str, x: usize, way: &str) {
         let middle = self.middle();
-        self.body += &format!(
-            "<path class=\"{class}\" d=\"M{x} {middle}{way}\" marker-end=\"url(#{class})\"/>\n"
-        );
+        self.body +=
+            &format!("<path class=\"{class}\" d=\"M{x} {middle}{way}\" marker-end=\"url(#{class})\"/>\n");
     }
 
     /// A line of text, below what is there.
@@ -483,14 +397,7 @@ impl Drawing {
 
     /// A text somewhere.
     fn label(&mut self, class: &str, x: usize, y: usize, text: &str) {
-<<<<<<< HEAD
-        let text = text
-            .replace('&', "&amp;")
-            .replace('<', "&lt;")
-            .replace('>', "&gt;");
-=======
         let text = escape(text);
->>>>>>> checker
         self.body += &format!("<text class=\"{class}\" x=\"{x}\" y=\"{y}\">{text}</text>\n");
     }
 }

@@ -19,15 +19,6 @@ fn arenas() -> PathBuf {
     Path::new(env!("CARGO_MANIFEST_DIR")).join("tests/arenas")
 }
 
-<<<<<<< HEAD
-/// Runs the program in the folder of the arenas.
-fn checker(arguments: &[&str]) -> Ran {
-    let output = Command::new(env!("CARGO_BIN_EXE_checker"))
-        .args(arguments)
-        .current_dir(arenas())
-        .output()
-        .unwrap();
-=======
 /// The program, to be run in the folder of the arenas.
 fn program(arguments: &[&str]) -> Command {
     let mut program = Command::new(env!("CARGO_BIN_EXE_checker"));
@@ -37,7 +28,6 @@ fn program(arguments: &[&str]) -> Command {
 
 /// What became of a run.
 fn ran(output: Output) -> Ran {
->>>>>>> checker
     Ran {
         status: output.status.code().unwrap(),
         stdout: String::from_utf8(output.stdout).unwrap(),
@@ -81,32 +71,18 @@ fn on_text(command: &str, name: &str, text: &[u8], options: &[&str]) -> (Ran, St
     let ran = checker(&[&[command, file, "--svg", out], options].concat());
     let said = ran.stdout.replace(file, name);
     let failed = ran.stderr.replace(file, name);
-<<<<<<< HEAD
-    (
-        Ran {
-            stdout: said,
-            stderr: failed,
-            ..ran
-        },
-        fs::read_to_string(&picture).unwrap_or_default(),
-    )
-=======
     let drawn = fs::read_to_string(&picture).unwrap_or_default();
     if !drawn.is_empty() {
         assert_eq!(xml::well_formed(&drawn), Ok(()));
     }
     (Ran { stdout: said, stderr: failed, ..ran }, drawn)
->>>>>>> checker
 }
 
 /// Holds what the program says to a stored text.
 fn says(arguments: &[&str], stored: &str, status: i32) {
     let ran = checker(arguments);
     let expected = fs::read_to_string(arenas().join(stored)).unwrap();
-    assert_eq!(
-        ran.stdout, expected,
-        "checker {arguments:?} should say what is in {stored}"
-    );
+    assert_eq!(ran.stdout, expected, "checker {arguments:?} should say what is in {stored}");
     assert_eq!((ran.stderr.as_str(), ran.status), ("", status));
 }
 
@@ -213,15 +189,6 @@ fn without_arguments_it_shows_arenas_of_its_own() {
 
 #[cfg(not(feature = "level-three"))]
 #[test]
-<<<<<<< HEAD
-fn a_compression_needs_level_three() {
-    let ran = checker(&["compress", "whole.txt"]);
-    let message = "compress needs Level Three: build with the feature level-three\n";
-    assert_eq!(
-        (ran.stdout.as_str(), ran.stderr.as_str(), ran.status),
-        ("", message, 2)
-    );
-=======
 fn compressing_and_comparing_need_level_three() {
     for (command, files) in [("compress", &["whole.txt"][..]), ("compare", &["whole.txt", "whole.txt"])] {
         let ran = checker(&[&[command], files].concat());
@@ -242,7 +209,6 @@ fn help_and_version_are_printed() {
         let version = concat!("checker ", env!("CARGO_PKG_VERSION"), "\n");
         assert_eq!((ran.stdout.as_str(), ran.stderr.as_str(), ran.status), (version, "", 0));
     }
->>>>>>> checker
 }
 
 #[test]
@@ -255,28 +221,6 @@ fn wrong_use_is_told() {
         (&["compare", "-", "-"], "`compare - -`: standard input can be read only once"),
     ] {
         let ran = checker(arguments);
-<<<<<<< HEAD
-        assert_eq!(
-            (ran.stdout.as_str(), ran.status),
-            ("", 2),
-            "checker {arguments:?}"
-        );
-        assert!(
-            ran.stderr
-                .starts_with("usage: checker [check FILE | compress FILE] [--svg OUT]\n")
-        );
-    }
-    let ran = checker(&["check", "nowhere.txt"]);
-    assert_eq!((ran.stdout.as_str(), ran.status), ("", 2));
-    assert!(ran.stderr.starts_with("nowhere.txt: "), "{}", ran.stderr);
-    let ran = checker(&["check", "whole.txt", "--svg", "nowhere/picture.svg"]);
-    assert_eq!((ran.stdout.as_str(), ran.status), ("", 2));
-    assert!(
-        ran.stderr.starts_with("nowhere/picture.svg: "),
-        "{}",
-        ran.stderr
-    );
-=======
         assert_eq!((ran.stdout.as_str(), ran.status), ("", 2), "checker {arguments:?}");
         assert_eq!(ran.stderr, format!("{message}\n`checker --help` tells how it is called\n"));
     }
@@ -291,7 +235,6 @@ fn wrong_use_is_told() {
         assert_eq!((ran.stdout.as_str(), ran.status), ("", 2));
         assert!(ran.stderr.starts_with(name), "{}", ran.stderr);
     }
->>>>>>> checker
 }
 
 #[test]
@@ -398,30 +341,6 @@ fn a_parse_error_has_its_place_and_what_was_found() {
     let word_of_header = "expected a word of the header, a number from 0 to 4294967295";
     let long = format!("header {}", "9".repeat(50));
     let cases: &[(&[u8], &str)] = &[
-<<<<<<< HEAD
-        (b"", "1:1: expected `header`, but the text ends"),
-        (
-            b"# nothing\n\n",
-            "3:1: expected `header`, but the text ends",
-        ),
-        (b"\n head 1 1 0 5\n", "2:2: expected `header`"),
-        (
-            b"header 1 x 0 5\n",
-            "1:10: expected a word of the header, a number from 0 to 4294967295",
-        ),
-        (
-            b"header 1 1 0 4294967296",
-            "1:14: expected a word of the header, a number from 0 to 4294967295",
-        ),
-        (b"header 1 1 0 5\n2 0 0 5 5", "2:1: expected slot 1"),
-        (
-            b"header 2 2 0 5\n1 0 0 5 5\n\n1 0 0 5 5",
-            "4:1: expected slot 2",
-        ),
-        (
-            b"header 1 1 0 5\n1 +0 0 5 5",
-            "2:3: expected the prev of slot 1, a number from 0 to 65535 or `-`",
-=======
         (b"", "1:1: found the end of the text, expected `header`"),
         (b"# nothing\n\n", "3:1: found the end of the text, expected `header`"),
         (b"\n# nothing", "2:10: found the end of the text, expected `header`"),
@@ -435,7 +354,6 @@ fn a_parse_error_has_its_place_and_what_was_found() {
         (
             b"header 1 1 0 5\n1 +0 0 5 5",
             "2:3: found `+0`, expected the prev of slot 1, a number from 0 to 65535 or `-`",
->>>>>>> checker
         ),
         (
             b"header 1 1 0 5\n1 0 65536 5 5",
@@ -449,14 +367,7 @@ fn a_parse_error_has_its_place_and_what_was_found() {
             b"header 1 1 0 5\n1 0 0 5 # 5",
             "2:8: found the end of the line, expected the payload of slot 1, a number from 0 to 4294967295 or `-`",
         ),
-<<<<<<< HEAD
-        (
-            b"header 1 1 0 5\n1 0 0 5 5  6 # six",
-            "2:12: expected the end of the line",
-        ),
-=======
         (b"header 1 1 0 5\n1 0 0 5 5  6 # six", "2:12: found `6`, expected the end of the line"),
->>>>>>> checker
         (
             b"header 2 2 0 5\n1 0 0 5 -\n2 0 0 5 7",
             "3:9: found `7`, expected `-`, since the payload column ended before slot 1",
@@ -473,10 +384,7 @@ fn a_parse_error_has_its_place_and_what_was_found() {
     for (k, (text, expected)) in cases.iter().enumerate() {
         let (ran, picture) = on_text("check", &format!("parse{k}.txt"), text, &[]);
         assert_eq!(ran.stderr, format!("parse{k}.txt:{expected}\n"));
-        assert_eq!(
-            (ran.stdout.as_str(), ran.status, picture.as_str()),
-            ("", 2, "")
-        );
+        assert_eq!((ran.stdout.as_str(), ran.status, picture.as_str()), ("", 2, ""));
     }
 }
 
@@ -505,27 +413,11 @@ fn changed(lines: &[(&str, &str)]) -> String {
     })
 }
 
-<<<<<<< HEAD
-/// The slots that are drawn as broken: the first text of each such box.
-fn drawn_broken(picture: &str) -> Vec<&str> {
-    let boxes = picture
-        .split("<g class=\"slot")
-        .filter(|text| text.split('>').next().unwrap().contains("broken"));
-    boxes
-        .map(|text| {
-            text.split("</text>")
-                .next()
-                .and_then(|text| text.rsplit('>').next())
-                .unwrap()
-        })
-        .collect()
-=======
 /// The slots that are drawn with a class: the first text of each such box.
 fn drawn_as<'p>(picture: &'p str, class: &str) -> Vec<&'p str> {
     let boxes =
         picture.split("<g class=\"slot").filter(|text| text.split('>').next().unwrap().contains(class));
     boxes.map(|text| text.split("</text>").next().and_then(|text| text.rsplit('>').next()).unwrap()).collect()
->>>>>>> checker
 }
 
 /// The slots that are drawn as broken.
@@ -547,54 +439,19 @@ fn each_refusal_is_explained_and_its_slot_is_drawn_red() {
     let header = |header: &str| changed(&[("header 5 4 3 5", header)]);
     let row = |from, to| changed(&[(from, to)]);
     let cases = [
-        (
-            1,
-            header("header 5 4 3"),
-            "the header has 3 words, but it must have 4",
-            "",
-        ),
+        (1, header("header 5 4 3"), "the header has 3 words, but it must have 4", ""),
         (
             1,
             row("5 1 0 5 50", "5 1 0 5 -"),
             "the columns differ in length: prev has 5 words, next 5, generation 5 and payload 4",
             "",
         ),
-        (
-            2,
-            header("header 5 4 3 1"),
-            "the current generation is 1, but it must be at least 2",
-            "",
-        ),
-        (
-            3,
-            header("header 6 4 3 5"),
-            "the stack length is 6, but the columns have only 5 slots",
-            "",
-        ),
-        (
-            3,
-            header("header 5 7 3 5"),
-            "the link count is 7, but the columns have only 5 slots",
-            "",
-        ),
-        (
-            4,
-            header("header 5 5 3 5"),
-            "the link count is 5, but 4 of the stack's 5 slots are links",
-            "",
-        ),
-        (
-            5,
-            header("header 5 4 0 5"),
-            "there is no freelist root, but slot 3 is free",
-            "3",
-        ),
-        (
-            5,
-            "header 1 1 1 5\n1 0 0 5 10".to_string(),
-            "the freelist root is 1, but no slot is free",
-            "1",
-        ),
+        (2, header("header 5 4 3 1"), "the current generation is 1, but it must be at least 2", ""),
+        (3, header("header 6 4 3 5"), "the stack length is 6, but the columns have only 5 slots", ""),
+        (3, header("header 5 7 3 5"), "the link count is 7, but the columns have only 5 slots", ""),
+        (4, header("header 5 5 3 5"), "the link count is 5, but 4 of the stack's 5 slots are links", ""),
+        (5, header("header 5 4 0 5"), "there is no freelist root, but slot 3 is free", "3"),
+        (5, "header 1 1 1 5\n1 0 0 5 10".to_string(), "the freelist root is 1, but no slot is free", "1"),
         (
             6,
             row("3 0 3 0 0", "3 0 0 0 0"),
@@ -613,103 +470,36 @@ fn each_refusal_is_explained_and_its_slot_is_drawn_red() {
             "the freelist comes from slot 3 to 6, which is above the stack length 5",
             "3",
         ),
-        (
-            8,
-            header("header 5 4 1 5"),
-            "the freelist root is 1, but slot 1 is a link",
-            "1",
-        ),
-        (
-            8,
-            row("3 0 3 0 0", "3 0 4 0 0"),
-            "the freelist comes from slot 3 to 4, but slot 4 is a link",
-            "4",
-        ),
+        (8, header("header 5 4 1 5"), "the freelist root is 1, but slot 1 is a link", "1"),
+        (8, row("3 0 3 0 0", "3 0 4 0 0"), "the freelist comes from slot 3 to 4, but slot 4 is a link", "4"),
         (
             9,
             two_free(5, 3),
             "the freelist comes from slot 5 to 3 again, and none of its slots points at itself",
             "5",
         ),
-        (
-            10,
-            two_free(3, 0),
-            "the freelist ends at slot 3 after 1 of 2 free slots: slot 5 is not on it",
-            "5",
-        ),
+        (10, two_free(3, 0), "the freelist ends at slot 3 after 1 of 2 free slots: slot 5 is not on it", "5"),
         (
             11,
             row("1 0 5 5 10", "1 6 5 5 10"),
             "slot 1: its prev is 6, which is above the stack length 5",
             "1",
         ),
-<<<<<<< HEAD
-        (
-            11,
-            row("1 0 5 5 10", "1 0 3 5 10"),
-            "slot 1: its next is 3, but slot 3 is free",
-            "1",
-        ),
-        (
-            11,
-            row("1 0 5 5 10", "1 3 5 5 10"),
-            "slot 1: its prev is 3, but slot 3 is free",
-            "1",
-        ),
-        (
-            11,
-            row("5 1 0 5 50", "5 0 0 5 50"),
-            "slot 1: its next is 5, but slot 5 has no prev",
-            "1",
-        ),
-        (
-            11,
-            row("1 0 5 5 10", "1 0 0 5 10"),
-            "slot 5: its prev is 1, but slot 1 has no next",
-            "5",
-        ),
-        (
-            11,
-            row("5 1 0 5 50", "5 4 0 5 50"),
-            "slot 1: its next is 5, but the prev of slot 5 is 4, not 1",
-            "1",
-        ),
-        (
-            11,
-            row("2 4 4 5 20", "2 1 4 5 20"),
-            "slot 2: its prev is 1, but the next of slot 1 is 5, not 2",
-            "2",
-        ),
-=======
         (11, row("1 0 5 5 10", "1 3 5 5 10"), "slot 1: its prev is 3, but slot 3 is free", "1"),
         (11, row("5 1 0 5 50", "5 0 0 5 50"), "slot 1: its next is 5, but slot 5 has no prev", "1"),
         (11, row("1 0 5 5 10", "1 0 0 5 10"), "slot 5: its prev is 1, but slot 1 has no next", "5"),
->>>>>>> checker
     ];
     for (number, text, why, slot) in cases {
         let (ran, picture) = on_text("check", "refused.txt", text.as_bytes(), &[]);
         assert!(
-            ran.stdout
-                .starts_with(&format!("refused.txt: refused with {number}")),
+            ran.stdout.starts_with(&format!("refused.txt: refused with {number}")),
             "{why}: {}",
             ran.stdout
         );
         assert_eq!(ran.stdout.lines().nth(1), Some(format!("  {why}").as_str()));
-<<<<<<< HEAD
-        assert_eq!(
-            (ran.stdout.lines().count(), ran.stderr.as_str(), ran.status),
-            (2, "", 1)
-        );
-        assert_eq!(
-            drawn_broken(&picture).concat(),
-            slot,
-            "the red slot, where {why}"
-        );
-=======
         assert_eq!((ran.stdout.lines().count(), ran.stderr.as_str(), ran.status), (2, "", 1));
         assert_eq!(drawn_broken(&picture).concat(), slot, "the red slot, where {why}");
         let why = why.replace('\'', "&apos;");
->>>>>>> checker
         assert!(picture.contains(&format!(">refused with {number}: {why}</text>")));
     }
 }
@@ -780,25 +570,11 @@ fn all_faults_of_rule_11_are_listed_and_drawn_red() {
 
 #[test]
 fn every_slot_of_the_stack_is_drawn_once() {
-<<<<<<< HEAD
-    let (_, picture) = on_text(
-        "check",
-        "drawn.txt",
-        &fs::read(arenas().join("whole.txt")).unwrap(),
-    );
-    for slot in 1..=9 {
-        assert_eq!(
-            picture.matches(&format!(">{slot}</text>")).count(),
-            1,
-            "slot {slot}"
-        );
-=======
     let (_, picture) = on_text("check", "drawn.txt", &fs::read(arenas().join("whole.txt")).unwrap(), &[]);
     for slot in 1..=9 {
         let number = |text: &&str| text.contains(&format!(">{slot}</text>\n<text class=\"note\""));
         let drawn = picture.split("<text class=\"number\"").filter(number);
         assert_eq!(drawn.count(), 1, "slot {slot}");
->>>>>>> checker
     }
     assert_eq!(picture.matches("<g class=\"slot\">").count(), 7);
     assert_eq!(picture.matches("<g class=\"slot free\">").count(), 2);
@@ -813,13 +589,7 @@ fn one_chain(slots: u32, closed: bool) -> String {
     let mut text = format!("header {slots} {slots} 0 5\n");
     for slot in 1..=slots {
         let (prev, next) = (slot - 1, if slot == slots { 0 } else { slot + 1 });
-        let ends = |neighbour, other| {
-            if closed && neighbour == 0 {
-                other
-            } else {
-                neighbour
-            }
-        };
+        let ends = |neighbour, other| if closed && neighbour == 0 { other } else { neighbour };
         text += &format!("{slot} {} {} 5 {slot}\n", ends(prev, slots), ends(next, 1));
     }
     text
@@ -832,10 +602,7 @@ fn a_large_arena_is_drawn_in_part() {
         assert_eq!(ran.status, 0);
         assert!(ran.stdout.lines().all(|line| line.len() <= 110));
         assert_eq!(
-            ran.stdout
-                .split_whitespace()
-                .filter(|word| word.parse::<u32>().is_ok())
-                .count(),
+            ran.stdout.split_whitespace().filter(|word| word.parse::<u32>().is_ok()).count(),
             65_535 + 5
         );
         assert!(picture.contains("The picture is cut: 600 of 65535 slots of the stack are drawn."));
@@ -853,10 +620,7 @@ fn the_broken_slot_of_a_large_arena_is_drawn() {
         "check",
         "too_large.txt",
         one_chain(65_535, false)
-            .replace(
-                "\n65535 65534 0 5 65535\n",
-                "\n65535 65534 0 5 65535\n65536 0 0 5 0\n",
-            )
+            .replace("\n65535 65534 0 5 65535\n", "\n65535 65534 0 5 65535\n65536 0 0 5 0\n")
             .as_bytes(),
         &[],
     );
@@ -869,24 +633,12 @@ fn the_broken_slot_of_a_large_arena_is_drawn() {
 #[cfg(feature = "level-three")]
 #[test]
 fn a_compression_is_drawn_before_and_after() {
-<<<<<<< HEAD
-    let (ran, picture) = on_text(
-        "compress",
-        "both.txt",
-        &fs::read(arenas().join("whole.txt")).unwrap(),
-    );
-=======
     let (ran, picture) = on_text("compress", "both.txt", &fs::read(arenas().join("whole.txt")).unwrap(), &[]);
->>>>>>> checker
     assert_eq!(ran.status, 0);
     assert_eq!(picture.matches("<g class=\"slot\">").count(), 14);
     assert_eq!(picture.matches("<g class=\"slot free\">").count(), 2);
     for from in [1, 5, 3, 2, 4, 7, 9] {
-        assert_eq!(
-            picture.matches(&format!(">from {from}</text>")).count(),
-            1,
-            "from {from}"
-        );
+        assert_eq!(picture.matches(&format!(">from {from}</text>")).count(), 1, "from {from}");
     }
 }
 
