@@ -6,6 +6,7 @@ mod by_slot;
 mod compress;
 mod explain;
 mod format;
+mod html;
 mod panel;
 mod picture;
 mod svg;
@@ -25,10 +26,11 @@ use picture::{Kind, Picture};
 use panel::{Fault, Panel};
 
 const USAGE: &str = "\
-usage: checker [check FILE | compress FILE] [--svg OUT]
+usage: checker [check FILE | compress FILE] [--svg OUT] [--html OUT]
   check FILE      says which rule the arena breaks, at which slot and why, or lists its chains
   compress FILE   shows the arena before and after canonical compression, and where each link came from
   --svg OUT       draws the arena too, before and after where it is compressed
+  --html OUT      writes a page that shows all slots in a browser, to be searched and followed by a click
   no command      does all this for two arenas of its own, a whole and a broken one
 docs/FORMAT.md describes FILE. Exit status: 0 passes the check, 1 refused, 2 wrong use or unreadable file.
 ";
@@ -44,14 +46,27 @@ enum Request {
     Samples,
 }
 
+/// Where to write what is drawn.
+#[derive(Default)]
+struct Outs {
+    svg: Option<PathBuf>,
+    html: Option<PathBuf>,
+}
+
 /// The request and where to draw it, none if the arguments are wrong.
-fn request(mut arguments: impl Iterator<Item = OsString>) -> Option<(Request, Option<PathBuf>)> {
+fn request(mut arguments: impl Iterator<Item = OsString>) -> Option<(Request, Outs)> {
     let mut words = Vec::new();
-    let mut out = None;
+    let mut outs = Outs::default();
     while let Some(word) = arguments.next() {
-        if word != "--svg" {
-            words.push(word);
-        } else if out.replace(arguments.next()?.into()).is_some() {
+        let out = match word.to_str() {
+            Some("--svg") => &mut outs.svg,
+            Some("--html") => &mut outs.html,
+            _ => {
+                words.push(word);
+                continue;
+            }
+        };
+        if out.replace(arguments.next()?.into()).is_some() {
             return None;
         }
     }
@@ -61,7 +76,7 @@ fn request(mut arguments: impl Iterator<Item = OsString>) -> Option<(Request, Op
         [name, file] if name == "compress" => Request::Compress(file.into()),
         _ => return None,
     };
-    Some((request, out))
+    Some((request, outs))
 }
 
 /// An arena with what the check says of it.
@@ -183,14 +198,19 @@ fn samples() -> Result<Shown, String> {
 
 /// Does what the arguments ask for.
 fn answer(arguments: impl Iterator<Item = OsString>) -> Result<Shown, String> {
-    let (request, out) = request(arguments).ok_or(USAGE)?;
+    let (request, outs) = request(arguments).ok_or(USAGE)?;
     let shown = match request {
         Request::Check(file) => Checked::read(&file)?.show(),
         Request::Compress(file) => compress(&Checked::read(&file)?)?,
         Request::Samples => samples()?,
     };
-    if let Some(out) = out {
-        fs::write(&out, svg::draw(&shown.panels)).map_err(|error| format!("{}: {error}\n", out.display()))?;
+    let write =
+        |out: &Path, text| fs::write(out, text).map_err(|error| format!("{}: {error}\n", out.display()));
+    if let Some(out) = outs.svg {
+        write(&out, svg::draw(&shown.panels))?;
+    }
+    if let Some(out) = outs.html {
+        write(&out, html::page(&shown.panels))?;
     }
     Ok(shown)
 }

@@ -1,0 +1,320 @@
+//! One page for a browser, with everything in it, so that it loads nothing: all slots of the arenas, to be searched and
+//! followed by a click.
+//!
+//! What needs no script stands in the page as text: titles, verdicts, the header's words, counts and faults. Columns and
+//! rows stand in it as data. The script `page.js` draws of these what can be seen.
+
+use std::collections::BTreeMap;
+
+use crate::by_slot::BySlot;
+use crate::panel::{Fault, Panel};
+use crate::picture::{Kind, Picture, Row};
+
+const STYLE: &str = include_str!("page.css");
+const SCRIPT: &str = include_str!("page.js");
+
+/// How many faults are listed where there is no script; with one, all are.
+const STATIC_FAULTS: usize = 1000;
+/// How many of the header's further words are shown, and how many generations beside the current one.
+const LISTED: usize = 8;
+
+/// The page that shows the panels side by side.
+pub fn page(panels: &[Panel]) -> String {
+    let shown: Vec<Shown<'_>> = panels.iter().map(Shown::new).collect();
+    let titles: Vec<String> = panels.iter().map(|panel| escaped(&panel.title)).collect();
+    let titles = titles.join(" | ");
+    let sections: String = shown.iter().enumerate().map(|(k, shown)| shown.section(k + 1)).collect();
+    let data: Vec<String> = shown.iter().map(Shown::data).collect();
+    let data = data.join(",\n");
+    format!(
+        r##"<!doctype html>
+<html lang="en">
+<head>
+<meta charset="utf-8">
+<meta http-equiv="Content-Security-Policy" content="default-src 'none'; style-src 'unsafe-inline'; script-src 'unsafe-inline'; base-uri 'none'; form-action 'none'">
+<meta name="viewport" content="width=device-width, initial-scale=1">
+<meta name="color-scheme" content="light dark">
+<title>Chain arena: {titles}</title>
+<style>
+{STYLE}</style>
+</head>
+<body>
+<header>
+<h1>Chain arena</h1>
+<form role="search" id="search" hidden>
+<label for="wanted">Find</label>
+<input id="wanted" type="search" placeholder="number, or 0x.." autocomplete="off" spellcheck="false" aria-describedby="found">
+<select id="by" aria-label="Find by">
+<option value="any">slot or payload</option>
+<option value="slot">slot</option>
+<option value="payload">payload</option>
+<option value="generation">generation</option>
+</select>
+<button>Find</button>
+<span class="steps">
+<button type="button" id="hit-before" aria-label="Hit before" disabled>&#8249;</button>
+<button type="button" id="hit-after" aria-label="Hit after" disabled>&#8250;</button>
+</span>
+<output id="found" for="wanted"></output>
+</form>
+</header>
+<noscript><p class="notice">The chains are drawn by a script, and scripts are turned off here. What follows are the verdicts, the headers and the broken slots.</p></noscript>
+<main>
+{sections}</main>
+<footer id="help" hidden>
+<details>
+<summary>Signs and keys</summary>
+<ul>
+<li>A box is a slot: its number, and below it the payload of the link. An arrow leads to the next link, and that link's prev leads back.</li>
+<li><i>gen</i> is a generation that differs from the current one. After a compression <i>from</i> is the slot where the link was, and <i>to</i> the slot where it went.</li>
+<li>Grey boxes are free. Red boxes are broken slots, and a red pointer leads to where it may not.</li>
+<li><kbd>/</kbd> goes to the search, <kbd>Enter</kbd> to the next hit and <kbd>Shift</kbd> <kbd>Enter</kbd> to the one before.</li>
+<li>In a list of slots, <kbd>&#8592;</kbd> and <kbd>&#8594;</kbd> follow prev and next, <kbd>Home</kbd> and <kbd>End</kbd> go to the ends of the chain. In a list of broken slots, <kbd>&#8593;</kbd> and <kbd>&#8595;</kbd> go from one to the other.</li>
+</ul>
+</details>
+</footer>
+<script type="application/json" id="data">
+[{data}]
+</script>
+<script>
+{SCRIPT}</script>
+</body>
+</html>
+"##
+    )
+}
+
+/// A panel with the rows of its arena.
+struct Shown<'p> {
+    panel: &'p Panel,
+    picture: Picture,
+}
+
+impl<'p> Shown<'p> {
+    /// Finds the rows of a panel's arena.
+    fn new(panel: &'p Panel) -> Self {
+        Self { panel, picture: Picture::of(&panel.arena) }
+    }
+
+    /// The part of the page that shows the panel, as far as it needs no script. Panels are counted from 1.
+    fn section(&self, number: usize) -> String {
+        let title = escaped(&self.panel.title);
+        let verdict = match &self.panel.sentence {
+            None => r#"<p class="verdict passes">passes the check</p>"#.to_string(),
+            Some(sentence) => format!(r#"<p class="verdict refused">{}</p>"#, escaped(sentence)),
+        };
+        let words = facts("header", &self.words());
+        let counts = facts("counts", &self.counts());
+        let generations = self.other_generations(number);
+        let faults = static_faults(&self.panel.faults);
+        format!(
+            r#"<section class="panel" id="panel-{number}" aria-labelledby="title-{number}">
+<h2 id="title-{number}">{title}</h2>
+{verdict}
+{words}{counts}{generations}{faults}<div class="live" hidden>
+<div class="faults" role="listbox" tabindex="0" aria-label="Broken slots of {title}"></div>
+<div class="card" role="group" aria-live="polite" aria-label="Chosen slot of {title}"></div>
+<nav aria-label="Parts of {title}"></nav>
+<div class="list" role="listbox" tabindex="0" aria-label="Slots of {title}"></div>
+</div>
+</section>
+"#
+        )
+    }
+
+    /// The header's words by name.
+    fn words(&self) -> Vec<(&'static str, String)> {
+        let header = &self.panel.arena.header;
+        let names = ["Stack length", "Link count", "Root", "Current generation"];
+        let word = |place| header.get(place).map_or("missing".to_string(), u32::to_string);
+        let mut words: Vec<_> = names.into_iter().enumerate().map(|(k, name)| (name, word(k))).collect();
+        if let Some(further) = header.get(names.len()..).filter(|further| !further.is_empty()) {
+            words.push(("Further words", listed(further.iter().map(u32::to_string))));
+        }
+        words
+    }
+
+    /// What the arena holds, in numbers.
+    fn counts(&self) -> Vec<(&'static str, String)> {
+        let arena = &self.panel.arena;
+        let links = arena.stack().filter(|&slot| arena.is_link(slot)).count();
+        let lone = self.picture.rows.iter().filter(|row| is_lone(row)).count();
+        [
+            ("Links", links),
+            ("Open chains", self.picture.count(Kind::Open) - lone),
+            ("Lone links", lone),
+            ("Closed chains", self.picture.count(Kind::Closed)),
+            ("Free slots", arena.stack().count() - links),
+            ("Capacity", arena.capacity()),
+        ]
+        .into_iter()
+        .map(|(name, count)| (name, count.to_string()))
+        .collect()
+    }
+
+    /// The generations of links that differ from the current one, each with how many links have it.
+    fn other_generations(&self, number: usize) -> String {
+        let arena = &self.panel.arena;
+        let mut counts = BTreeMap::new();
+        for slot in arena.stack().filter(|&slot| arena.is_link(slot)) {
+            *counts.entry(arena.generation(slot)).or_insert(0u32) += 1;
+        }
+        counts.remove(&arena.header().generation);
+        if counts.is_empty() {
+            return String::new();
+        }
+        let each = counts.iter().map(|(generation, count)| {
+            let links = if *count == 1 { "link" } else { "links" };
+            format!(
+                r##"<a href="#panel={number}&amp;generation={generation}">{generation}</a> ({count} {links})"##
+            )
+        });
+        format!("<p class=\"generations\">Other generations: {}</p>\n", listed(each))
+    }
+
+    /// The panel as the script reads it.
+    fn data(&self) -> String {
+        let (panel, rows) = (self.panel, &self.picture.rows);
+        let (arena, header) = (&panel.arena, panel.arena.header());
+        let sentences: Vec<String> = panel.faults.iter().map(|fault| quoted(&fault.sentence)).collect();
+        [
+            format!(r#"{{"title":{}"#, quoted(&panel.title)),
+            format!(r#""stack":{}"#, arena.stack().count()),
+            format!(r#""capacity":{}"#, arena.capacity()),
+            format!(r#""root":{}"#, header.root),
+            format!(r#""current":{}"#, header.generation),
+            format!(r#""prev":{}"#, column(arena.prev.iter().copied())),
+            format!(r#""next":{}"#, column(arena.next.iter().copied())),
+            format!(r#""generation":{}"#, column(arena.generation.iter().copied())),
+            format!(r#""payload":{}"#, column(arena.payload.iter().copied())),
+            format!(r#""whereFrom":{}"#, column(panel.where_from.iter().copied())),
+            format!(r#""kinds":{}"#, column(rows.iter().map(kind_and_flags))),
+            format!(r#""lengths":{}"#, column(rows.iter().map(|row| row.slots.len() as u32))),
+            format!(r#""order":{}"#, column(rows.iter().flat_map(|row| row.slots.iter().copied()))),
+            format!(r#""faults":{}"#, column(panel.faults.iter().map(|fault| fault.slot))),
+            format!(r#""sentences":[{}]}}"#, sentences.join(",\n")),
+        ]
+        .join(",\n")
+    }
+}
+
+/// Whether a row is a link without neighbours, and none is named by it.
+fn is_lone(row: &Row) -> bool {
+    let names_none = row.wrong_prev.is_none() && row.wrong_next.is_none();
+    row.kind == Kind::Open && row.slots.len() == 1 && names_none
+}
+
+/// A row's kind from 0 to 3, with 4 added for a wrong prev and 8 for a wrong next.
+fn kind_and_flags(row: &Row) -> u32 {
+    let kind = match row.kind {
+        Kind::Open => 0,
+        Kind::Closed => 1,
+        Kind::Freelist => 2,
+        Kind::Unlisted => 3,
+    };
+    kind + 4 * u32::from(row.wrong_prev.is_some()) + 8 * u32::from(row.wrong_next.is_some())
+}
+
+/// Names with what belongs to them.
+fn facts(class: &str, facts: &[(&str, String)]) -> String {
+    let each: String =
+        facts.iter().map(|(name, fact)| format!("<div><dt>{name}</dt><dd>{fact}</dd></div>\n")).collect();
+    format!("<dl class=\"{class}\">\n{each}</dl>\n")
+}
+
+/// The first few of some texts, and how many more there are.
+fn listed(texts: impl ExactSizeIterator<Item = String>) -> String {
+    let more = texts.len().saturating_sub(LISTED);
+    let first: Vec<String> = texts.take(LISTED).collect();
+    let more = if more == 0 { String::new() } else { format!(" and {more} more") };
+    first.join(", ") + &more
+}
+
+/// The list of the faults for a reader without script, and how many are left out of it.
+fn static_faults(faults: &[Fault]) -> String {
+    if faults.is_empty() {
+        return String::new();
+    }
+    let each: String = faults
+        .iter()
+        .take(STATIC_FAULTS)
+        .map(|fault| format!("<li><b>{}</b> {}</li>\n", fault.slot, escaped(&fault.sentence)))
+        .collect();
+    let more = match faults.len().saturating_sub(STATIC_FAULTS) {
+        0 => String::new(),
+        more => format!("<p>{more} more broken slots are not listed here.</p>\n"),
+    };
+    format!("<noscript><h3>Broken slots</h3>\n<ul class=\"static\">\n{each}</ul>\n{more}</noscript>\n")
+}
+
+/// A character so that it can be seen. Those that break a line or turn the direction of the text are replaced.
+fn visible(character: char) -> char {
+    match character {
+        '\0'..='\x1f' => char::from_u32(0x2400 + u32::from(character)).unwrap_or(char::REPLACEMENT_CHARACTER),
+        '\x7f' => '\u{2421}',
+        '\u{80}'..='\u{9f}'
+        | '\u{61c}'
+        | '\u{200e}'..='\u{200f}'
+        | '\u{2028}'..='\u{202e}'
+        | '\u{2066}'..='\u{2069}'
+        | '\u{feff}' => char::REPLACEMENT_CHARACTER,
+        _ => character,
+    }
+}
+
+/// A text from outside, as text or attribute of the page.
+fn escaped(text: &str) -> String {
+    let mut escaped = String::with_capacity(text.len());
+    for character in text.chars().map(visible) {
+        match character {
+            '&' => escaped += "&amp;",
+            '<' => escaped += "&lt;",
+            '>' => escaped += "&gt;",
+            '"' => escaped += "&quot;",
+            '\'' => escaped += "&#39;",
+            _ => escaped.push(character),
+        }
+    }
+    escaped
+}
+
+/// A text from outside, as a string of the data. No `<` stands in it, so that it cannot end the data.
+fn quoted(text: &str) -> String {
+    let mut quoted = String::with_capacity(text.len() + 2);
+    quoted.push('"');
+    for character in text.chars().map(visible) {
+        match character {
+            '"' | '\\' | '<' | '>' | '&' => quoted += &format!("\\u{:04x}", u32::from(character)),
+            _ => quoted.push(character),
+        }
+    }
+    quoted.push('"');
+    quoted
+}
+
+/// A column as the script reads it: how many bytes each word has, and the words in base64, their low bytes first.
+fn column<T: Into<u32>>(words: impl Iterator<Item = T>) -> String {
+    let words: Vec<u32> = words.map(Into::into).collect();
+    let width = match words.iter().max() {
+        None | Some(0..=0xff) => 1,
+        Some(0..=0xffff) => 2,
+        Some(_) => 4,
+    };
+    let bytes: Vec<u8> = words.iter().flat_map(|word| word.to_le_bytes().into_iter().take(width)).collect();
+    format!(r#"[{width},"{}"]"#, base64(&bytes))
+}
+
+/// Bytes in base64.
+fn base64(bytes: &[u8]) -> String {
+    const DIGITS: &[u8; 64] = b"ABCDEFGHIJKLMNOPQRSTUVWXYZabcdefghijklmnopqrstuvwxyz0123456789+/";
+    let mut text = String::with_capacity(bytes.len().div_ceil(3) * 4);
+    for three in bytes.chunks(3) {
+        let byte = |k| three.get(k).copied().map_or(0, u32::from);
+        let word = byte(0) << 16 | byte(1) << 8 | byte(2);
+        for (k, shift) in [18, 12, 6, 0].into_iter().enumerate() {
+            let digit = DIGITS[(word >> shift & 63) as usize];
+            text.push(if k <= three.len() { char::from(digit) } else { '=' });
+        }
+    }
+    text
+}
