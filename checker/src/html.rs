@@ -318,3 +318,86 @@ fn base64(bytes: &[u8]) -> String {
     }
     text
 }
+
+#[cfg(test)]
+mod tests {
+    use super::*;
+    use chain_arena::OwnedArena;
+
+    /// A panel of an arena, with a title.
+    fn panel(title: &str, arena: OwnedArena) -> Panel {
+        Panel { title: title.to_string(), sentence: None, arena, faults: Vec::new(), where_from: Vec::new() }
+    }
+
+    #[test]
+    fn texts_from_outside_stay_texts() {
+        let hostile =
+            "a\"b'c&d\\</script><script>e</script><!--<img src=x onerror=f>\u{2028}\u{202e}\0\n\x7f\u{85}";
+        let mut broken = panel(hostile, OwnedArena::empty(3));
+        broken.sentence = Some(hostile.to_string());
+        broken.faults = vec![Fault { slot: 1, sentence: hostile.to_string() }];
+        let tame = page(&[panel("tame", OwnedArena::empty(3)), panel("tame", OwnedArena::empty(3))]);
+        let page = page(&[panel("tame", OwnedArena::empty(3)), broken]);
+        assert_eq!(page.matches("<script").count(), tame.matches("<script").count());
+        assert_eq!(page.matches("</script").count(), tame.matches("</script").count());
+        assert!(!page.contains("<!--") && !page.contains("<img"));
+        let end = "\u{fffd}\u{fffd}\u{2400}\u{240a}\u{2421}\u{fffd}";
+        let text = "a&quot;b&#39;c&amp;d\\&lt;/script&gt;&lt;script&gt;e&lt;/script&gt;&lt;!--&lt;img src=x onerror=f&gt;";
+        assert!(page.contains(&format!("<h2 id=\"title-2\">{text}{end}</h2>")));
+        assert!(page.contains(&format!("<p class=\"verdict refused\">{text}{end}</p>")));
+        assert!(page.contains(&format!("<li><b>1</b> {text}{end}</li>")));
+        let string =
+            r#""a\u0022b'c\u0026d\u005c\u003c/script\u003e\u003cscript\u003ee\u003c/script\u003e\u003c!--"#;
+        assert_eq!(page.matches(string).count(), 2);
+        assert!(page.chars().all(|character| character == '\n' || character == visible(character)));
+    }
+
+    #[test]
+    fn the_script_cannot_end_early() {
+        for text in [STYLE, SCRIPT] {
+            assert!(!text.contains("</") && !text.contains("<!--") && !text.contains("<script"));
+        }
+    }
+
+    #[test]
+    fn the_page_is_written_of_any_arena() {
+        let odd = |lengths: [usize; 4], header: Vec<u32>| OwnedArena {
+            prev: vec![7; lengths[0]],
+            next: vec![2; lengths[1]],
+            generation: vec![5; lengths[2]],
+            payload: vec![u32::MAX; lengths[3]],
+            header,
+        };
+        assert!(page(&[]).contains("[]\n</script>"));
+        for (arena, words) in [
+            (OwnedArena::default(), "<dt>Root</dt><dd>missing</dd>"),
+            (odd([3, 2, 1, 0], vec![3]), "<dt>Stack length</dt><dd>3</dd>"),
+            (odd([0, 1, 2, 3], vec![9, 9]), "<dt>Link count</dt><dd>9</dd>"),
+            (odd([2; 4], (0..20).collect()), "<dd>4, 5, 6, 7, 8, 9, 10, 11 and 8 more</dd>"),
+            (odd([70_000; 4], vec![u32::MAX; 4]), "<dt>Capacity</dt><dd>70000</dd>"),
+        ] {
+            assert!(page(&[panel("odd", arena)]).contains(words), "{words}");
+        }
+    }
+
+    #[test]
+    fn many_faults_are_counted_where_there_is_no_script() {
+        let mut broken = panel("broken", OwnedArena::empty(0));
+        let fault = |slot| Fault { slot, sentence: format!("slot {slot}: its next is 0") };
+        broken.faults = (1..=1_500).map(fault).collect();
+        let page = page(&[broken]);
+        assert_eq!(page.matches("<li><b>").count(), STATIC_FAULTS);
+        assert!(page.contains("<p>500 more broken slots are not listed here.</p>"));
+        assert_eq!(page.matches("\"slot 1500: its next is 0\"").count(), 1);
+    }
+
+    #[test]
+    fn base64_is_as_everywhere() {
+        for (bytes, text) in
+            [("", ""), ("f", "Zg=="), ("fo", "Zm8="), ("foo", "Zm9v"), ("foobar", "Zm9vYmFy")]
+        {
+            assert_eq!(base64(bytes.as_bytes()), text);
+        }
+        assert_eq!(base64(&[0xfb, 0xff]), "+/8=");
+    }
+}

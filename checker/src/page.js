@@ -15,6 +15,12 @@ const [OPEN, CLOSED, FREELIST, UNLISTED] = [0, 1, 2, 3];
 const PARTS = ['Open chains', 'Lone links', 'Closed chains', 'Freelist', 'Free, not on the freelist'];
 const [LONE_PART, FREELIST_PART] = [1, 3];
 
+/** How high a list is from which on buttons lead to its parts, in pixels. */
+const NAV_FROM = 480;
+/** A sentence as long ones are, by which letters are measured; and about how many letters a slot with its margins takes. */
+const SENTENCE = 'slot 60000: its next is 60001, but the prev of slot 60001 is 59998, not 60000';
+const FAULT_MARGIN = 10;
+
 /** Makes an element with a class and a text. */
 function element(tag, className = '', text = '') {
   const node = document.createElement(tag);
@@ -340,6 +346,7 @@ class View {
       list.box.scrollTop = list.tops[this.lineOf(seen.row, seen.from)];
       list.render();
     }
+    this.nav[0].parentNode.hidden = list.tops[list.lines.length] < NAV_FROM;
     this.markPart();
   }
 
@@ -347,27 +354,24 @@ class View {
   measure() {
     const line = element('div', 'line first');
     const [gutter, box, arrow] = [element('div', 'gutter'), this.widestBox(), element('i', 'arrow')];
-    const [heading, digit] = [element('h3', '', 'Freelist'), element('div', 'fault', '0')];
+    const [heading, fault] = [element('h3', '', PARTS[0]), element('div', 'fault widest', SENTENCE)];
     line.append(gutter, box, arrow);
     this.list.space.append(line, heading);
-    this.faults.space.append(digit);
+    this.faults.space.append(fault);
     const width = (node) => node.getBoundingClientRect().width;
     const height = (node) => node.getBoundingClientRect().height;
-    digit.style.width = 'max-content';
-    const padding = parseFloat(getComputedStyle(digit).paddingLeft);
     this.size = {
       gutter: width(gutter),
       box: Math.ceil(width(box)),
       arrow: width(arrow),
       line: Math.ceil(height(box)) + 12,
       heading: Math.ceil(height(heading)),
-      fault: height(digit),
-      digit: width(digit) - 2 * padding,
-      padding,
+      fault: height(fault),
+      letter: width(fault) / SENTENCE.length,
     };
     this.list.box.style.setProperty('--box-width', `${this.size.box}px`);
     this.list.box.style.setProperty('--box-height', `${this.size.line - 12}px`);
-    for (const node of [line, heading, digit]) node.remove();
+    for (const node of [line, heading, fault]) node.remove();
   }
 
   /** A box with the largest word of each kind. */
@@ -390,9 +394,8 @@ class View {
   /** The lines of the list: for each part a heading and its rows. */
   makeLines() {
     const { gutter, box, arrow, heading } = this.size;
-    const room = this.width - gutter;
-    this.perLine = Math.max(1, Math.floor(room / (box + arrow)));
-    this.packed = Math.max(1, Math.floor((room + 8) / (box + 8)));
+    this.perLine = Math.max(1, Math.floor((this.width - gutter) / (box + arrow)));
+    this.packed = Math.max(1, Math.floor((this.width + 8) / (box + 8)));
     this.partLines = [];
     const lines = [];
     this.parts.forEach((rows, part) => {
@@ -434,12 +437,13 @@ class View {
 
   /** The lines of the broken slots, high enough for their sentences. */
   makeFaultLines() {
-    const { fault: height, digit, padding } = this.size;
-    // A letter is hardly wider than a digit, and a line may end some letters early.
-    const letters = Math.max(10, (this.width - 2 * padding) / digit - 8);
+    const { fault: height, letter } = this.size;
+    const letters = this.width / letter;
     return this.arena.faults.map((fault) => {
-      const lines = Math.ceil((fault.sentence.length + 8) / letters);
-      return { fault, height: height + (lines - 1) * 20 };
+      const length = fault.sentence.length + FAULT_MARGIN;
+      // Where a sentence is broken, each of its lines may end some letters early.
+      const lines = length < letters ? 1 : Math.ceil(length / Math.max(10, letters - FAULT_MARGIN));
+      return { fault, height: height * lines };
     });
   }
 
@@ -459,8 +463,7 @@ class View {
 
   /** Draws slots between which no pointer leads. */
   drawPacked({ together, row, from, to }) {
-    const node = element('div', from === 0 ? 'line packed first' : 'line packed');
-    node.append(element('div', 'gutter'));
+    const node = element('div', 'line packed');
     if (together) for (const lone of together) node.append(this.drawBox(this.arena.slotAt(lone, 0)));
     else for (let place = from; place < to; place++) node.append(this.drawBox(this.arena.slotAt(row, place)));
     return node;
@@ -471,15 +474,24 @@ class View {
     const node = element('div', from === 0 ? 'line first' : 'line');
     const name = ['open chain', 'closed chain', 'freelist'][row.kind];
     node.setAttribute('role', 'group');
-    node.setAttribute('aria-label', `${name} of ${row.length}, from place ${from - lead(row) + 1}`);
-    const gutter = element('div', 'gutter');
-    const [number, text] = from === 0 ? [row.length, row.kind === FREELIST ? 'free' : 'links'] : [from - lead(row) + 1, 'at'];
-    if (from === 0) gutter.append(element('b', '', number), element('small', '', number === 1 && text === 'links' ? 'link' : text));
-    else gutter.append(element('small', '', text), element('b', '', number));
-    node.append(gutter);
+    node.setAttribute('aria-label', `${name} of ${counted(row.length, row.kind === FREELIST ? 'slot' : 'link')}`);
+    node.append(this.drawGutter(row, from));
     for (let cell = from; cell < to; cell++) {
       node.append(this.drawCell(row, cell));
       if (cell + 1 < cellsOf(row)) node.append(this.drawArrow(row, cell));
+    }
+    return node;
+  }
+
+  /** Draws how long a row is, or at which place of it a further line begins. */
+  drawGutter(row, from) {
+    const node = element('div', 'gutter');
+    const place = from - lead(row);
+    if (from === 0) {
+      const [count, name] = counted(row.length, 'link').split(' ');
+      node.append(element('b', '', count), element('small', '', row.kind === FREELIST ? 'free' : name));
+    } else if (place < row.length) {
+      node.append(element('small', '', 'at'), element('b', '', place + 1));
     }
     return node;
   }
@@ -619,8 +631,10 @@ class Card {
     }
     this.heading = element('h3');
     this.facts = element('dl');
-    this.wrong = element('div', 'wrong');
-    node.append(this.buttons.prev, this.heading, this.buttons.next, this.facts, this.wrong);
+    this.faulty = element('div', 'faulty');
+    const pointers = element('div', 'pointers');
+    pointers.append(this.buttons.prev, this.buttons.next);
+    node.append(this.heading, pointers, this.facts, this.faulty);
     this.show(0);
   }
 
@@ -630,14 +644,14 @@ class Card {
     this.node.classList.toggle('empty', slot === 0);
     this.heading.textContent = slot ? `Slot ${slot}` : 'No slot chosen';
     for (const side of ['prev', 'next']) this.showPointer(side, slot);
-    const facts = slot ? this.describe(slot) : [['Click a box, or search for a slot or a payload.', '']];
+    const facts = slot ? this.describe(slot) : [['Click a box, or search.', '']];
     this.facts.replaceChildren(...facts.map(([name, fact]) => {
       const pair = element('div');
       pair.append(element('dt', '', name), element('dd', '', fact));
       return pair;
     }));
     const faults = arena.faultsOf.get(slot) ?? [];
-    this.wrong.replaceChildren(...faults.map((fault) => element('p', '', fault.sentence)));
+    this.faulty.replaceChildren(...faults.map((fault) => element('p', '', fault.sentence)));
   }
 
   /** Shows where a pointer of a slot leads. */

@@ -93,7 +93,9 @@ fn wrong_use_is_told() {
     ] {
         let ran = checker(arguments);
         assert_eq!((ran.stdout.as_str(), ran.status), ("", 2), "checker {arguments:?}");
-        assert!(ran.stderr.starts_with("usage: checker [check FILE | compress FILE] [--svg OUT] [--html OUT]\n"));
+        assert!(
+            ran.stderr.starts_with("usage: checker [check FILE | compress FILE] [--svg OUT] [--html OUT]\n")
+        );
     }
     let ran = checker(&["check", "nowhere.txt"]);
     assert_eq!((ran.stdout.as_str(), ran.status), ("", 2));
