@@ -2,7 +2,7 @@
 //! followed by a click.
 //!
 //! What needs no script stands in the page as text: titles, verdicts, the header's words, counts and faults. Columns and
-//! rows stand in it as data. The script `page.js` draws of these what can be seen.
+//! rows stand in it as data, of which the script in `page/` draws what can be seen.
 
 use std::collections::BTreeMap;
 
@@ -10,8 +10,18 @@ use crate::by_slot::BySlot;
 use crate::panel::{Fault, Panel};
 use crate::picture::{Kind, Picture, Row};
 
-const STYLE: &str = include_str!("page.css");
-const SCRIPT: &str = include_str!("page.js");
+const STYLE: &str = include_str!("page/page.css");
+const SCRIPT: &str = concat!(
+    include_str!("page/arena.js"),
+    "\n",
+    include_str!("page/scroller.js"),
+    "\n",
+    include_str!("page/view.js"),
+    "\n",
+    include_str!("page/card.js"),
+    "\n",
+    include_str!("page/search.js")
+);
 
 /// How many faults are listed where there is no script; with one, all are.
 const STATIC_FAULTS: usize = 1000;

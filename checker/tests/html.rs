@@ -336,6 +336,7 @@ fn wrong_pointers_and_free_slots_are_shown() {
     });
     (arena.generation[5], arena.generation[7], arena.generation[8]) = (0, 0, 0);
     arena.header = vec![9, 6, 8, 5];
+    let compared = panel("compared", one_chain(7));
     let mut broken = panel("a</script><b>\u{2028}", arena);
     broken.sentence = Some("refused".to_string());
     broken.faults = [6, 7].map(|slot| Fault { slot, sentence: format!("slot {slot} is wrong") }).to_vec();
@@ -344,7 +345,7 @@ note(document.querySelector('h2').textContent);
 note([...document.querySelectorAll('.end.wrong')].map((end) => end.textContent).join(' '));
 note([...document.querySelectorAll('.box.free')].map((box) => box.dataset.slot).join(' '));
 note([...document.querySelectorAll('.box.broken')].map((box) => box.dataset.slot).join(' '));
-note([...document.querySelectorAll('.space h3')].map((heading) => heading.textContent).join(', '));
+note([...list(1).querySelectorAll('h3')].map((heading) => heading.textContent).join(', '));
 key(document.querySelector('.faults'), 'ArrowDown'); note(chosen());
 key(document.querySelector('.faults'), 'ArrowDown'); note(chosen());
 key(document.querySelector('.faults'), 'ArrowDown'); note(chosen());
@@ -353,9 +354,10 @@ note(document.querySelector('.card .prev').textContent);
 note(document.querySelector('.card .faulty').textContent);
 document.querySelector('.end.leads').click(); note(chosen());
 document.querySelector('.fault').click(); note(chosen());
+box(1, 9).click(); note(chosen());
 note(document.querySelector('noscript').childElementCount);
 ";
-    let page = html::page(&[broken]);
+    let page = html::page(&[broken, compared]);
     let Some(document) = browsed("broken", &page, "", &format!("{TOOLS}{steps}")) else { return };
     assert_eq!(
         noted(&document),
@@ -365,14 +367,15 @@ note(document.querySelector('noscript').childElementCount);
             "8 6 9",
             "7 6",
             "Open chains2, Closed chains1, Freelist2, Free, not on the freelist1",
-            "6",
-            "7",
-            "7",
-            "7",
+            "6/6",
+            "7/7",
+            "7/7",
+            "7/7",
             "prev12 above the stack",
             "slot 7 is wrong",
-            "5",
-            "6",
+            "5/5",
+            "6/6",
+            "9/0",
             "0",
         ]
     );

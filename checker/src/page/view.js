@@ -1,0 +1,388 @@
+// What is drawn of an arena: the list of its slots, and the list of its broken slots.
+
+/** How wide a list is printed, in pixels. */
+const PRINTED_WIDTH = 680;
+/** How high a list is from which on buttons lead to its parts, in pixels. */
+const NAV_FROM = 480;
+/** A sentence as long ones are, by which letters are measured; and how many of them a slot and the margins take. */
+const SENTENCE = 'slot 60000: its next is 60001, but the prev of slot 60001 is 59998, not 60000';
+const FAULT_MARGIN = 10;
+
+/** A panel of the page: an arena with its list of slots, its list of broken slots, and the chosen slot. */
+class View {
+  constructor(data, k) {
+    this.arena = new Arena(data);
+    this.number = k + 1;
+    this.section = document.getElementById(`panel-${this.number}`);
+    this.chosen = 0;
+    this.hits = new Set();
+    this.whereTo = null;
+    const part = (name) => this.section.querySelector(name);
+    this.list = new Scroller(part('.list'), (line) => this.drawLine(line));
+    this.faults = new Scroller(part('.faults'), (line) => this.drawFault(line));
+    this.faults.box.hidden = this.arena.faults.length === 0;
+    this.parts = PARTS.map(() => []);
+    for (const row of this.arena.rows) this.parts[partOf(row)].push(row);
+    this.card = new Card(this, part('.card'));
+    this.makeNav(part('nav'));
+    this.listen();
+  }
+
+  /** Makes the buttons that lead to the parts of the list. */
+  makeNav(nav) {
+    this.nav = PARTS.map((name, part) => {
+      const button = element('button', '', name);
+      button.append(element('b', '', this.countOf(part)));
+      button.hidden = this.parts[part].length === 0;
+      button.addEventListener('click', () => (this.list.box.scrollTop = this.list.tops[this.partLines[part]]));
+      nav.append(button);
+      return button;
+    });
+  }
+
+  /** How many chains, or free slots, a part has. */
+  countOf(part) {
+    const rows = this.parts[part];
+    return part < FREELIST_PART ? rows.length : rows.reduce((sum, row) => sum + row.length, 0);
+  }
+
+  /** Answers clicks and keys. */
+  listen() {
+    this.list.box.addEventListener('scroll', () => this.markPart(), { passive: true });
+    this.list.box.addEventListener('click', (event) => this.click(event));
+    this.list.box.addEventListener('keydown', (event) => this.key(event));
+    this.faults.box.addEventListener('click', (event) => this.click(event));
+    this.faults.box.addEventListener('keydown', (event) => this.faultKey(event));
+  }
+
+  /** Chooses the slot that was clicked. */
+  click(event) {
+    const slot = Number(event.target.closest('[data-slot]')?.dataset.slot);
+    if (this.arena.has(slot)) choose(this, slot);
+  }
+
+  /** Follows the chain with the arrow keys, Home and End. */
+  key(event) {
+    const row = this.arena.row(this.chosen);
+    const go = {
+      ArrowLeft: () => this.card.follow('prev'),
+      ArrowRight: () => this.card.follow('next'),
+      Home: () => choose(this, this.arena.slotAt(row, 0)),
+      End: () => choose(this, this.arena.slotAt(row, row.length - 1)),
+    }[event.key];
+    if (!go || event.ctrlKey || event.metaKey || event.altKey || this.arena.order.length === 0) return;
+    event.preventDefault();
+    if (this.chosen === 0) choose(this, this.firstSeen());
+    else go();
+  }
+
+  /** Goes from one broken slot to the other with the arrow keys. */
+  faultKey(event) {
+    const step = { ArrowUp: -1, ArrowDown: 1 }[event.key];
+    const { faults } = this.arena;
+    if (!step) return;
+    event.preventDefault();
+    const at = faults.findIndex((fault) => fault.slot >= this.chosen);
+    let to = at < 0 ? faults.length - 1 : at;
+    if (this.chosen !== 0) {
+      while (faults[to]?.slot === this.chosen) to += step;
+    }
+    if (this.arena.has(faults[to]?.slot)) choose(this, faults[to].slot);
+  }
+
+  /** The first slot of the list that can be seen. */
+  firstSeen() {
+    const box = this.list.box.getBoundingClientRect();
+    const boxes = [...this.list.space.querySelectorAll('.box')];
+    const seen = boxes.find((node) => node.getBoundingClientRect().top >= box.top);
+    return Number((seen ?? boxes[0]).dataset.slot);
+  }
+
+  /** Lays the list out for a width, and keeps its place. */
+  lay(width = this.list.space.clientWidth) {
+    const { list } = this;
+    const seen = list.lines[list.lineAt(list.box.scrollTop)];
+    this.width = width;
+    this.measure();
+    list.set(this.makeLines());
+    this.faults.set(this.makeFaultLines());
+    if (list.lines.length === 0) list.space.append(element('p', 'none', 'There is no slot in the stack.'));
+    if (seen?.row && list.box.scrollTop > 0) {
+      list.box.scrollTop = list.tops[this.lineOf(seen.row, seen.from)];
+      list.render();
+    }
+    this.nav[0].parentNode.hidden = list.tops[list.lines.length] < NAV_FROM;
+    this.markPart();
+  }
+
+  /** Measures a line of one box with the widest words that there are. */
+  measure() {
+    const line = element('div', 'line first');
+    const [gutter, box, arrow] = [element('div', 'gutter'), this.widestBox(), element('i', 'arrow')];
+    const [heading, fault] = [element('h3', '', PARTS[0]), element('div', 'fault widest', SENTENCE)];
+    line.append(gutter, box, arrow);
+    this.list.space.append(line, heading);
+    this.faults.space.append(fault);
+    const width = (node) => node.getBoundingClientRect().width;
+    const height = (node) => node.getBoundingClientRect().height;
+    this.size = {
+      gutter: width(gutter),
+      box: Math.ceil(width(box)),
+      arrow: width(arrow),
+      line: Math.ceil(height(box)) + 12,
+      heading: Math.ceil(height(heading)),
+      fault: height(fault),
+      letter: width(fault) / SENTENCE.length,
+    };
+    this.list.box.style.setProperty('--box-width', `${this.size.box}px`);
+    this.list.box.style.setProperty('--box-height', `${this.size.line - 12}px`);
+    for (const node of [line, heading, fault]) node.remove();
+  }
+
+  /** A box with the largest word of each kind. */
+  widestBox() {
+    const { arena } = this;
+    const most = { slot: arena.stack, payload: 0, generation: 0, tie: 0 };
+    for (let slot = 1; slot <= arena.stack; slot++) {
+      if (!arena.isLink(slot)) continue;
+      most.payload = Math.max(most.payload, arena.word('payload', slot));
+      if (arena.isOtherGeneration(slot)) most.generation = Math.max(most.generation, arena.word('generation', slot));
+      most.tie = Math.max(most.tie, arena.whereFrom[slot - 1] ?? 0, this.whereTo?.[slot] ?? 0);
+    }
+    const node = element('div', 'box widest');
+    node.append(element('b', '', most.slot), element('span', '', most.payload));
+    if (most.generation > 0) node.append(element('small', '', `gen ${most.generation}`));
+    if (most.tie > 0) node.append(element('small', '', `from ${most.tie}`));
+    return node;
+  }
+
+  /** The lines of the list: for each part a heading and its rows. */
+  makeLines() {
+    const { gutter, box, arrow, heading } = this.size;
+    this.perLine = Math.max(1, Math.floor((this.width - gutter) / (box + arrow)));
+    this.packed = Math.max(1, Math.floor((this.width + 8) / (box + 8)));
+    this.partLines = [];
+    const lines = [];
+    this.parts.forEach((rows, part) => {
+      this.partLines[part] = lines.length;
+      if (rows.length > 0) lines.push({ part, height: heading });
+      if (part === LONE_PART) this.packRows(rows, lines);
+      else for (const row of rows) this.breakRow(row, part, lines);
+    });
+    return lines;
+  }
+
+  /** Adds the lines of a row. */
+  breakRow(row, part, lines) {
+    row.line = lines.length;
+    const [cells, most] = [cellsOf(row), this.mostOf(row)];
+    for (let from = 0; from < cells; from += most) {
+      lines.push({ part, row, from, to: Math.min(cells, from + most), height: this.size.line });
+    }
+  }
+
+  /** Adds the lines of lone links, as many on a line as there is room for. */
+  packRows(rows, lines) {
+    for (let begin = 0; begin < rows.length; begin += this.packed) {
+      const together = rows.slice(begin, begin + this.packed);
+      for (const row of together) row.line = lines.length;
+      lines.push({ part: LONE_PART, together, row: together[0], from: 0, height: this.size.line });
+    }
+  }
+
+  /** How many cells of a row stand on a line. */
+  mostOf(row) {
+    return row.kind === UNLISTED ? this.packed : this.perLine;
+  }
+
+  /** The line on which a cell of a row stands. */
+  lineOf(row, cell) {
+    return row.line + (isLone(row) ? 0 : Math.floor(cell / this.mostOf(row)));
+  }
+
+  /** The lines of the broken slots, high enough for their sentences. */
+  makeFaultLines() {
+    const { fault: height, letter } = this.size;
+    const letters = this.width / letter;
+    return this.arena.faults.map((fault) => {
+      const length = fault.sentence.length + FAULT_MARGIN;
+      // Where a sentence is broken, each of its lines may end some letters early.
+      const lines = length < letters ? 1 : Math.ceil(length / Math.max(10, letters - FAULT_MARGIN));
+      return { fault, height: height * lines };
+    });
+  }
+
+  /** Draws a line of the list. */
+  drawLine(line) {
+    if (!line.row) return this.drawHeading(line.part);
+    if (line.together || line.row.kind === UNLISTED) return this.drawPacked(line);
+    return this.drawChain(line);
+  }
+
+  /** Draws the heading of a part. */
+  drawHeading(part) {
+    const node = element('h3', '', PARTS[part]);
+    node.setAttribute('role', 'presentation');
+    node.append(element('b', '', this.countOf(part)));
+    return node;
+  }
+
+  /** Draws slots between which no pointer leads. */
+  drawPacked({ together, row, from, to }) {
+    const node = element('div', 'line packed');
+    if (together) for (const lone of together) node.append(this.drawBox(this.arena.slotAt(lone, 0)));
+    else for (let place = from; place < to; place++) node.append(this.drawBox(this.arena.slotAt(row, place)));
+    return node;
+  }
+
+  /** Draws a line of a row, with arrows between its cells. */
+  drawChain({ row, from, to }) {
+    const node = element('div', from === 0 ? 'line first' : 'line');
+    const name = ['open chain', 'closed chain', 'freelist'][row.kind];
+    node.setAttribute('role', 'group');
+    node.setAttribute('aria-label', `${name} of ${counted(row.length, row.kind === FREELIST ? 'slot' : 'link')}`);
+    node.append(this.drawGutter(row, from));
+    for (let cell = from; cell < to; cell++) {
+      node.append(this.drawCell(row, cell));
+      if (cell + 1 < cellsOf(row)) node.append(this.drawArrow(row, cell));
+    }
+    return node;
+  }
+
+  /** Draws how long a row is, or at which place of it a further line begins. */
+  drawGutter(row, from) {
+    const node = element('div', 'gutter');
+    const place = from - lead(row);
+    if (from === 0) {
+      const [count, name] = counted(row.length, 'link').split(' ');
+      node.append(element('b', '', count), element('small', '', row.kind === FREELIST ? 'free' : name));
+    } else if (place < row.length) {
+      node.append(element('small', '', 'at'), element('b', '', place + 1));
+    }
+    return node;
+  }
+
+  /** Draws a cell of a row: a box, or what leads to the first or from the last one. */
+  drawCell(row, cell) {
+    const { arena } = this;
+    const place = cell - lead(row);
+    if (place < 0) {
+      const prev = arena.word('prev', arena.slotAt(row, 0));
+      return row.wrongPrev ? this.drawEnd('prev', prev, true) : this.drawEnd('root', null, false);
+    }
+    if (place < row.length) return this.drawBox(arena.slotAt(row, place));
+    if (row.length === 0) return this.drawEnd('root', arena.root, true);
+    const next = arena.word('next', arena.slotAt(row, row.length - 1));
+    if (row.wrongNext) return this.drawEnd('next', next, true);
+    return row.kind === CLOSED ? this.drawEnd('back to', next, false) : this.drawEnd('itself', null, false);
+  }
+
+  /** Draws what a pointer at the end of a row says. */
+  drawEnd(name, slot, wrong) {
+    const node = element('div', wrong ? 'end wrong' : 'end', name);
+    if (slot !== null) {
+      node.append(element('b', '', slot));
+      node.dataset.slot = slot;
+      node.classList.toggle('leads', this.arena.has(slot));
+    }
+    return node;
+  }
+
+  /** Draws the arrow behind a cell. */
+  drawArrow(row, cell) {
+    const back = cell < lead(row) && row.wrongPrev;
+    const wrong = back || (row.wrongNext && cell === cellsOf(row) - 2);
+    const node = element('i', `arrow${back ? ' back' : ''}${wrong ? ' wrong' : ''}`);
+    node.setAttribute('aria-hidden', 'true');
+    return node;
+  }
+
+  /** Draws a slot. */
+  drawBox(slot) {
+    const { arena } = this;
+    const node = element('div', 'box');
+    node.append(element('b', '', slot));
+    if (arena.isLink(slot)) {
+      node.append(element('span', '', arena.columns.payload[slot - 1] ?? 'missing'));
+    } else {
+      node.append(element('span', '', 'free'));
+    }
+    if (arena.isOtherGeneration(slot)) {
+      node.append(element('small', 'generation', `gen ${arena.word('generation', slot)}`));
+    }
+    const tie = this.tieOf(slot);
+    if (tie) node.append(element('small', 'tie', `${tie.word} ${tie.slot}`));
+    node.classList.toggle('free', !arena.isLink(slot));
+    node.classList.toggle('broken', arena.faultsOf.has(slot));
+    node.id = `panel-${this.number}-slot-${slot}`;
+    node.dataset.slot = slot;
+    node.setAttribute('role', 'option');
+    node.setAttribute('aria-label', `slot ${[...node.children].map((child) => child.textContent).join(', ')}`);
+    this.mark(node, slot);
+    return node;
+  }
+
+  /** Where a link came from or went to: of an arena between two others, where it came from. */
+  tieOf(slot) {
+    const [from, to] = [this.arena.isLink(slot) && this.arena.whereFrom[slot - 1], this.whereTo?.[slot]];
+    if (from) return { word: 'from', slot: from };
+    return to ? { word: 'to', slot: to } : null;
+  }
+
+  /** Shows whether a box is chosen, and whether it is a hit of the search. */
+  mark(node, slot) {
+    node.classList.toggle('chosen', slot === this.chosen);
+    node.classList.toggle('hit', this.hits.has(slot));
+    node.setAttribute('aria-selected', String(slot === this.chosen));
+  }
+
+  /** Draws a broken slot with its sentence. */
+  drawFault({ fault }) {
+    const node = element('div', 'fault');
+    node.append(element('b', '', fault.slot), element('span', '', fault.sentence));
+    node.dataset.slot = fault.slot;
+    node.setAttribute('role', 'option');
+    this.mark(node, fault.slot);
+    return node;
+  }
+
+  /** Shows which part of the list is seen. */
+  markPart() {
+    const { list } = this;
+    const end = list.box.scrollTop > 0 && list.box.scrollTop + list.box.clientHeight >= list.box.scrollHeight - 1;
+    const seen = end ? list.lines.length - 1 : list.lineAt(list.box.scrollTop);
+    this.nav.forEach((button, part) => {
+      button.toggleAttribute('aria-current', list.lines[seen]?.part === part);
+    });
+  }
+
+  /** Shows a slot as the chosen one, 0 for none. */
+  show(slot) {
+    const { arena } = this;
+    this.chosen = slot;
+    this.section.dataset.chosen = slot;
+    this.card.show(slot);
+    if (slot !== 0) {
+      const row = arena.row(slot);
+      this.list.reveal(this.lineOf(row, lead(row) + arena.placeOf[slot]));
+      if (arena.faultsOf.has(slot)) this.faults.reveal(arena.faults.findIndex((fault) => fault.slot === slot));
+    }
+    this.markAll();
+  }
+
+  /** Marks everything that is drawn. */
+  markAll() {
+    for (const node of this.section.querySelectorAll('.box, .fault')) this.mark(node, Number(node.dataset.slot));
+    const id = `panel-${this.number}-slot-${this.chosen}`;
+    if (this.chosen) this.list.box.setAttribute('aria-activedescendant', id);
+    else this.list.box.removeAttribute('aria-activedescendant');
+  }
+
+  /** Lays everything out for the printer. */
+  print() {
+    const row = this.chosen ? this.arena.row(this.chosen) : null;
+    this.lay(PRINTED_WIDTH);
+    this.list.spread(row ? this.lineOf(row, lead(row) + this.arena.placeOf[this.chosen]) : 0);
+    this.faults.spread(0);
+  }
+}
