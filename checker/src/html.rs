@@ -240,7 +240,7 @@ fn listed(texts: impl ExactSizeIterator<Item = String>) -> String {
     first.join(", ") + &more
 }
 
-/// The list of the faults for a reader without script, and how many are left out of it.
+/// How many faults there are, and their list for a reader without script.
 fn static_faults(faults: &[Fault]) -> String {
     if faults.is_empty() {
         return String::new();
@@ -254,7 +254,10 @@ fn static_faults(faults: &[Fault]) -> String {
         0 => String::new(),
         more => format!("<p>{more} more broken slots are not listed here.</p>\n"),
     };
-    format!("<noscript><h3>Broken slots</h3>\n<ul class=\"static\">\n{each}</ul>\n{more}</noscript>\n")
+    let count = faults.len();
+    format!(
+        "<h3>Broken slots: {count}</h3>\n<noscript><ul class=\"static\">\n{each}</ul>\n{more}</noscript>\n"
+    )
 }
 
 /// A character so that it can be seen. Those that break a line or turn the direction of the text are replaced.

@@ -197,6 +197,13 @@ fn chromium() -> Option<PathBuf> {
         .find(|program| program.is_file())
 }
 
+/// A path as part of an address.
+fn address(path: &Path) -> String {
+    let plain = |byte: &u8| byte.is_ascii_alphanumeric() || b"/._-".contains(byte);
+    let sign = |byte: u8| if plain(&byte) { char::from(byte).to_string() } else { format!("%{byte:02X}") };
+    path.to_str().unwrap().bytes().map(sign).collect()
+}
+
 /// The document that Chromium makes of a page at a fragment, after a script that is added to it; none without Chromium.
 fn browsed(name: &str, page: &str, fragment: &str, script: &str) -> Option<String> {
     let Some(chromium) = chromium() else {
@@ -212,7 +219,7 @@ fn browsed(name: &str, page: &str, fragment: &str, script: &str) -> Option<Strin
     let [html, out, log] = ["page.html", "document.html", "log.txt"].map(|name| folder.join(name));
     let page = page.replace("</body>", &format!("<script>\n{script}</script>\n</body>"));
     fs::write(&html, page).unwrap();
-    let mut browser = Command::new(chromium)
+    let mut browser = Command::new(&chromium)
         .args([
             "--headless=new",
             "--no-sandbox",
@@ -227,11 +234,11 @@ fn browsed(name: &str, page: &str, fragment: &str, script: &str) -> Option<Strin
             "--dump-dom",
         ])
         .arg(format!("--user-data-dir={}", folder.join("profile").display()))
-        .arg(format!("file://{}{fragment}", html.display()))
+        .arg(format!("file://{}{fragment}", address(&html)))
         .stdout(File::create(&out).unwrap())
         .stderr(File::create(&log).unwrap())
         .spawn()
-        .unwrap();
+        .unwrap_or_else(|error| panic!("{} does not start: {error}", chromium.display()));
     let start = Instant::now();
     while browser.try_wait().unwrap().is_none() {
         if start.elapsed() > Duration::from_secs(60) {

@@ -98,7 +98,7 @@ function goToHit(at) {
   search.at = (at + hits.length) % hits.length;
   const { view, slot, by } = hits[search.at];
   choose(view, slot);
-  view.section.scrollIntoView({ block: 'nearest' });
+  view.bringIntoView();
   const where = views.length > 1 ? ` in ${view.arena.title}` : '';
   const what = by === 'slot' ? `slot ${slot}` : by.startsWith('slot') ? `${by} ${slot}` : `${by} of slot ${slot}`;
   tell(`${search.at + 1} of ${counted(hits.length, 'hit')}: ${what}${where}`, false);

@@ -4,9 +4,22 @@
 const PRINTED_WIDTH = 680;
 /** How high a list is from which on buttons lead to its parts, in pixels. */
 const NAV_FROM = 480;
-/** A sentence as long ones are, by which letters are measured; and how many of them a slot and the margins take. */
+/** A sentence as they are, by which letters are measured. */
 const SENTENCE = 'slot 60000: its next is 60001, but the prev of slot 60001 is 59998, not 60000';
-const FAULT_MARGIN = 10;
+
+/** On how many lines a sentence stands, if so many letters stand on each. A longer word is broken. */
+function linesOf(sentence, letters) {
+  let [lines, used] = [1, 0];
+  for (const word of sentence.split(' ')) {
+    if (used > 0 && used + word.length > letters) {
+      lines += 1;
+      used = 0;
+    }
+    lines += Math.floor(word.length / letters);
+    used += word.length % letters + 1;
+  }
+  return lines;
+}
 
 /** A panel of the page: an arena with its list of slots, its list of broken slots, and the chosen slot. */
 class View {
@@ -51,7 +64,10 @@ class View {
     this.list.box.addEventListener('scroll', () => this.markPart(), { passive: true });
     this.list.box.addEventListener('click', (event) => this.click(event));
     this.list.box.addEventListener('keydown', (event) => this.key(event));
-    this.faults.box.addEventListener('click', (event) => this.click(event));
+    this.faults.box.addEventListener('click', (event) => {
+      this.click(event);
+      this.bringIntoView();
+    });
     this.faults.box.addEventListener('keydown', (event) => this.faultKey(event));
   }
 
@@ -87,7 +103,14 @@ class View {
     if (this.chosen !== 0) {
       while (faults[to]?.slot === this.chosen) to += step;
     }
-    if (this.arena.has(faults[to]?.slot)) choose(this, faults[to].slot);
+    if (!this.arena.has(faults[to]?.slot)) return;
+    choose(this, faults[to].slot);
+    this.bringIntoView();
+  }
+
+  /** Scrolls the page until the chosen slot can be seen, where the list is not all in the window. */
+  bringIntoView() {
+    document.getElementById(`panel-${this.number}-slot-${this.chosen}`)?.scrollIntoView({ block: 'nearest' });
   }
 
   /** The first slot of the list that can be seen. */
@@ -119,7 +142,9 @@ class View {
   measure() {
     const line = element('div', 'line first');
     const [gutter, box, arrow] = [element('div', 'gutter'), this.widestBox(), element('i', 'arrow')];
-    const [heading, fault] = [element('h3', '', PARTS[0]), element('div', 'fault widest', SENTENCE)];
+    const heading = element('h3', '', PARTS[0]);
+    const fault = this.drawFault({ fault: { slot: this.arena.stack, sentence: SENTENCE } });
+    fault.classList.add('widest');
     line.append(gutter, box, arrow);
     this.list.space.append(line, heading);
     this.faults.space.append(fault);
@@ -132,7 +157,8 @@ class View {
       line: Math.ceil(height(box)) + 12,
       heading: Math.ceil(height(heading)),
       fault: height(fault),
-      letter: width(fault) / SENTENCE.length,
+      faultMargin: width(fault) - width(fault.lastChild),
+      letter: width(fault.lastChild) / SENTENCE.length,
     };
     this.list.box.style.setProperty('--box-width', `${this.size.box}px`);
     this.list.box.style.setProperty('--box-height', `${this.size.line - 12}px`);
@@ -202,14 +228,10 @@ class View {
 
   /** The lines of the broken slots, high enough for their sentences. */
   makeFaultLines() {
-    const { fault: height, letter } = this.size;
-    const letters = this.width / letter;
-    return this.arena.faults.map((fault) => {
-      const length = fault.sentence.length + FAULT_MARGIN;
-      // Where a sentence is broken, each of its lines may end some letters early.
-      const lines = length < letters ? 1 : Math.ceil(length / Math.max(10, letters - FAULT_MARGIN));
-      return { fault, height: height * lines };
-    });
+    const { fault: height, faultMargin, letter } = this.size;
+    // Some letters are wider than others, so some room is left.
+    const letters = Math.max(8, Math.floor((this.width - faultMargin) / letter * 0.98));
+    return this.arena.faults.map((fault) => ({ fault, height: height * linesOf(fault.sentence, letters) }));
   }
 
   /** Draws a line of the list. */
@@ -352,7 +374,7 @@ class View {
     const end = list.box.scrollTop > 0 && list.box.scrollTop + list.box.clientHeight >= list.box.scrollHeight - 1;
     const seen = end ? list.lines.length - 1 : list.lineAt(list.box.scrollTop);
     this.nav.forEach((button, part) => {
-      button.toggleAttribute('aria-current', list.lines[seen]?.part === part);
+      button.setAttribute('aria-current', String(list.lines[seen]?.part === part));
     });
   }
 
