@@ -2,6 +2,8 @@
 
 /** How wide a list is printed, in pixels. */
 const PRINTED_WIDTH = 680;
+/** How high a longer list stays, however much stands above it, in pixels. */
+const LEAST_HEIGHT = 200;
 /** How high a list is from which on buttons lead to its parts, in pixels. */
 const NAV_FROM = 480;
 /** A sentence as they are, by which letters are measured. */
@@ -39,6 +41,14 @@ class View {
     this.card = new Card(this, part('.card'));
     this.makeNav(part('nav'));
     this.listen();
+    if (this.arena.rows.length === 0) this.sayEmpty();
+  }
+
+  /** Says that there is nothing to show. */
+  sayEmpty() {
+    this.list.box.hidden = true;
+    this.card.node.hidden = true;
+    this.section.append(element('p', 'none', 'There is no slot in the stack.'));
   }
 
   /** Makes the buttons that lead to the parts of the list. */
@@ -129,12 +139,13 @@ class View {
     this.measure();
     list.set(this.makeLines());
     this.faults.set(this.makeFaultLines());
-    if (list.lines.length === 0) list.space.append(element('p', 'none', 'There is no slot in the stack.'));
     if (seen?.row && list.box.scrollTop > 0) {
       list.box.scrollTop = list.tops[this.lineOf(seen.row, seen.from)];
       list.render();
     }
-    this.nav[0].parentNode.hidden = list.tops[list.lines.length] < NAV_FROM;
+    const height = list.tops[list.lines.length];
+    list.box.style.minHeight = `${Math.min(height, LEAST_HEIGHT)}px`;
+    this.nav[0].parentNode.hidden = height < NAV_FROM;
     this.markPart();
   }
 
