@@ -2,6 +2,9 @@
 
 /** How wide a list is printed, in pixels. */
 const PRINTED_WIDTH = 680;
+/** How much room is between lines, and between boxes that no pointer connects, in pixels; the latter as in page.css. */
+const LINE_GAP = 12;
+const PACKED_GAP = 8;
 /** How high a longer list stays, however much stands above it, in pixels. */
 const LEAST_HEIGHT = 200;
 /** How high a list is from which on buttons lead to its parts, in pixels. */
@@ -104,17 +107,14 @@ class View {
 
   /** Goes from one broken slot to the other with the arrow keys. */
   faultKey(event) {
-    const step = { ArrowUp: -1, ArrowDown: 1 }[event.key];
-    const { faults } = this.arena;
-    if (!step) return;
+    if (event.key !== 'ArrowUp' && event.key !== 'ArrowDown') return;
     event.preventDefault();
-    const at = faults.findIndex((fault) => fault.slot >= this.chosen);
-    let to = at < 0 ? faults.length - 1 : at;
-    if (this.chosen !== 0) {
-      while (faults[to]?.slot === this.chosen) to += step;
-    }
-    if (!this.arena.has(faults[to]?.slot)) return;
-    choose(this, faults[to].slot);
+    const { faults } = this.arena;
+    const to = event.key === 'ArrowDown'
+      ? faults.find((fault) => fault.slot > this.chosen)
+      : faults.findLast((fault) => fault.slot < this.chosen);
+    if (!to || !this.arena.has(to.slot)) return;
+    choose(this, to.slot);
     this.bringIntoView();
   }
 
@@ -132,7 +132,7 @@ class View {
   }
 
   /** Lays the list out for a width, and keeps its place. */
-  lay(width = this.list.space.clientWidth) {
+  lay(width = this.list.space.clientWidth || this.faults.space.clientWidth) {
     const { list } = this;
     const seen = list.lines[list.lineAt(list.box.scrollTop)];
     this.width = width;
@@ -165,14 +165,14 @@ class View {
       gutter: width(gutter),
       box: Math.ceil(width(box)),
       arrow: width(arrow),
-      line: Math.ceil(height(box)) + 12,
+      line: Math.ceil(height(box)) + LINE_GAP,
       heading: Math.ceil(height(heading)),
       fault: height(fault),
       faultMargin: width(fault) - width(fault.lastChild),
       letter: width(fault.lastChild) / SENTENCE.length,
     };
     this.list.box.style.setProperty('--box-width', `${this.size.box}px`);
-    this.list.box.style.setProperty('--box-height', `${this.size.line - 12}px`);
+    this.list.box.style.setProperty('--box-height', `${this.size.line - LINE_GAP}px`);
     for (const node of [line, heading, fault]) node.remove();
   }
 
@@ -187,7 +187,8 @@ class View {
       most.tie = Math.max(most.tie, arena.whereFrom[slot - 1] ?? 0, this.whereTo?.[slot] ?? 0);
     }
     const node = element('div', 'box widest');
-    node.append(element('b', '', most.slot), element('span', '', most.payload));
+    const missing = arena.columns.payload.length < arena.stack && most.payload < 1e7;
+    node.append(element('b', '', most.slot), element('span', '', missing ? 'missing' : most.payload));
     if (most.generation > 0) node.append(element('small', '', `gen ${most.generation}`));
     if (most.tie > 0) node.append(element('small', '', `from ${most.tie}`));
     return node;
@@ -197,7 +198,7 @@ class View {
   makeLines() {
     const { gutter, box, arrow, heading } = this.size;
     this.perLine = Math.max(1, Math.floor((this.width - gutter) / (box + arrow)));
-    this.packed = Math.max(1, Math.floor((this.width + 8) / (box + 8)));
+    this.packed = Math.max(1, Math.floor((this.width + PACKED_GAP) / (box + PACKED_GAP)));
     this.partLines = [];
     const lines = [];
     this.parts.forEach((rows, part) => {
@@ -304,7 +305,7 @@ class View {
       return row.wrongPrev ? this.drawEnd('prev', prev, true) : this.drawEnd('root', null, false);
     }
     if (place < row.length) return this.drawBox(arena.slotAt(row, place));
-    if (row.length === 0) return this.drawEnd('root', arena.root, true);
+    if (row.length === 0) return this.drawEnd('slot', arena.root, true);
     const next = arena.word('next', arena.slotAt(row, row.length - 1));
     if (row.wrongNext) return this.drawEnd('next', next, true);
     return row.kind === CLOSED ? this.drawEnd('back to', next, false) : this.drawEnd('itself', null, false);
@@ -334,12 +335,8 @@ class View {
   drawBox(slot) {
     const { arena } = this;
     const node = element('div', 'box');
-    node.append(element('b', '', slot));
-    if (arena.isLink(slot)) {
-      node.append(element('span', '', arena.columns.payload[slot - 1] ?? 'missing'));
-    } else {
-      node.append(element('span', '', 'free'));
-    }
+    const payload = arena.isLink(slot) ? arena.columns.payload[slot - 1] ?? 'missing' : 'free';
+    node.append(element('b', '', slot), element('span', '', payload));
     if (arena.isOtherGeneration(slot)) {
       node.append(element('small', 'generation', `gen ${arena.word('generation', slot)}`));
     }
@@ -350,7 +347,9 @@ class View {
     node.id = `panel-${this.number}-slot-${slot}`;
     node.dataset.slot = slot;
     node.setAttribute('role', 'option');
-    node.setAttribute('aria-label', `slot ${[...node.children].map((child) => child.textContent).join(', ')}`);
+    const said = [...node.children].map((child) => child.textContent);
+    if (arena.isLink(slot)) said[1] = `payload ${said[1]}`;
+    node.setAttribute('aria-label', `slot ${said.join(', ')}`);
     this.mark(node, slot);
     return node;
   }
