@@ -68,13 +68,12 @@ impl Checked {
     pub fn panel(&self) -> Panel {
         let refused = self.refused.as_ref();
         Panel {
-            title: self.name.clone(),
+            passes: refused.is_none(),
             sentence: refused
                 .map(|(refusal, why)| format!("refused with {}: {}", refusal.number(), why.summary())),
-            arena: self.arena.clone(),
             faults: refused.map(|(_, why)| why.faults.clone()).unwrap_or_default(),
-            where_from: Vec::new(),
             around: self.around,
+            ..Panel::new(self.name.clone(), self.arena.clone())
         }
     }
 

@@ -83,14 +83,13 @@ impl<'a> Side<'a> {
             let (first, last) = (chain.first, chain.first + chain.len() as u32 - 1);
             (first..=last).map(move |slot| fault(slot, first, last))
         };
+        let title = format!("{}: {}, canonically compressed with reset", self.label, self.checked.name);
         Panel {
-            title: format!("{}: {}, canonically compressed with reset", self.label, self.checked.name),
             sentence: Some(format!("{} only in {}", counted(chains.len()), self.label))
                 .filter(|_| !chains.is_empty()),
-            arena: self.compressed.after.clone(),
             faults: chains.iter().flat_map(faults).collect(),
             where_from: self.compressed.where_from.clone(),
-            around: None,
+            ..Panel::new(title, self.compressed.after.clone())
         }
     }
 }

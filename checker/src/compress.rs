@@ -97,7 +97,8 @@ pub fn compress(checked: &Checked, how: How) -> Result<Shown, String> {
         let around = around.flatten();
         text += &format!("after: {}\n{}", header(&compressed.after), rows(&compressed.after, around));
         let Compressed { after: arena, where_from, .. } = compressed;
-        panels.push(Panel { title, sentence: overflowed, arena, faults: Vec::new(), where_from, around });
+        let sentence = overflowed;
+        panels.push(Panel { sentence, where_from, follows: true, around, ..Panel::new(title, arena) });
     }
     Ok(Shown { text, panels, passes: true })
 }

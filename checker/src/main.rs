@@ -1,5 +1,5 @@
-//! The checker for testers: reads arenas from plain text and says what the proved calls make of them, as text and as a
-//! picture. `USAGE` says how it is called.
+//! The checker for testers: reads arenas from plain text and says what the proved calls make of them, as text, as a
+//! picture and as a page. `USAGE` says how it is called.
 
 #[cfg(feature = "level-three")]
 mod alike;
@@ -15,6 +15,7 @@ mod compress;
 mod explain;
 mod files;
 mod format;
+mod html;
 mod panel;
 mod picture;
 mod quote;
@@ -46,6 +47,7 @@ options:
   --order-preserving   for compress: the links stay in the order of their slots
   --around SLOT        for check and compress: shows only the chain of a slot
   --svg OUT            draws what is shown
+  --html OUT           makes a page of it for a browser, to be searched and followed by a click
   -h, --help           prints this
   -V, --version        prints the version
   --                   what follows is no option
@@ -62,7 +64,7 @@ const VERSION: &str = concat!("checker ", env!("CARGO_PKG_VERSION"), "\n");
 type Draw = fn(&[Panel]) -> String;
 
 /// The options that name a file to draw into.
-const DRAWINGS: &[(&str, Draw)] = &[("--svg", svg::draw)];
+const DRAWINGS: &[(&str, Draw)] = &[("--svg", svg::draw), ("--html", html::page)];
 
 /// What `cargo run` shows: case K11 (REFERENCE, Marked cases), and an arena with one wrong pointer.
 const WHOLE: &str = include_str!("../arenas/k11.txt");

@@ -8,13 +8,17 @@ use crate::picture::Picture;
 #[derive(Clone, Debug)]
 pub struct Panel {
     pub title: String,
+    /// Whether the check passes
+    pub passes: bool,
     /// What must be told of it, such as why the check refuses it
     pub sentence: Option<String>,
     pub arena: OwnedArena,
-    /// What is wrong, by rising slots; of a rule that fails at no slot nothing
+    /// What is wrong, by rising slots; of a rule that fails at no slot nothing. Where the check passes, what differs
     pub faults: Vec<Fault>,
     /// The old slot of each link by its new one, after a compression
     pub where_from: Vec<Slot>,
+    /// Whether the arena of the panel before this one is what it was compressed from
+    pub follows: bool,
     /// The slot whose chain alone is shown, if not all is
     pub around: Option<u32>,
 }
@@ -27,6 +31,20 @@ pub struct Fault {
 }
 
 impl Panel {
+    /// An arena that passes the check, of which there is nothing to tell.
+    pub fn new(title: String, arena: OwnedArena) -> Self {
+        Self {
+            title,
+            passes: true,
+            sentence: None,
+            arena,
+            faults: Vec::new(),
+            where_from: Vec::new(),
+            follows: false,
+            around: None,
+        }
+    }
+
     /// Whether something is wrong at a slot.
     pub fn is_broken(&self, slot: u32) -> bool {
         self.faults.binary_search_by_key(&slot, |fault| fault.slot).is_ok()

@@ -109,6 +109,11 @@ impl Picture {
         self.rows.iter().map(chains).sum()
     }
 
+    /// How many lone links there are.
+    pub fn lone_links(&self) -> usize {
+        self.rows.iter().filter(|row| row.kind == Kind::Lone).map(|row| row.slots.len()).sum()
+    }
+
     /// How many closed chains there are.
     pub fn closed_chains(&self) -> usize {
         self.rows.iter().filter(|row| row.kind == Kind::Closed).count()

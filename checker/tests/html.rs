@@ -1,0 +1,454 @@
+//! The page that `--html` writes: what stands in it, and what a browser makes of it. Where there is no Chromium, the tests
+//! that need it say so and are skipped.
+
+#[allow(dead_code)]
+#[path = "../src/by_slot.rs"]
+mod by_slot;
+#[path = "../src/html.rs"]
+mod html;
+#[allow(dead_code)]
+#[path = "../src/panel.rs"]
+mod panel;
+#[allow(dead_code)]
+#[path = "../src/picture.rs"]
+mod picture;
+
+use std::env;
+use std::fs::{self, File};
+use std::io::{self, Write};
+use std::path::{Path, PathBuf};
+use std::process::Command;
+use std::thread;
+use std::time::{Duration, Instant};
+
+use chain_arena::OwnedArena;
+
+use panel::{Fault, Panel};
+
+/// As many slots as an arena can have.
+const MOST: u32 = 65_535;
+
+/// The folder of the arenas.
+fn arenas() -> PathBuf {
+    Path::new(env!("CARGO_MANIFEST_DIR")).join("tests/arenas")
+}
+
+/// A file of its own for each test.
+fn file(name: &str) -> PathBuf {
+    Path::new(env!("CARGO_TARGET_TMPDIR")).join(name)
+}
+
+/// The page that the program writes of a file in the folder of the arenas.
+fn written(command: &str, arena: &str, out: &str) -> String {
+    let out = file(out);
+    let _ = fs::remove_file(&out);
+    let arguments = [command.as_ref(), arena.as_ref(), "--html".as_ref(), out.as_os_str()];
+    let ran =
+        Command::new(env!("CARGO_BIN_EXE_checker")).args(arguments).current_dir(arenas()).output().unwrap();
+    assert!(ran.stderr.is_empty(), "{}", String::from_utf8_lossy(&ran.stderr));
+    fs::read_to_string(out).unwrap()
+}
+
+/// A panel of an arena of which nothing is said.
+fn panel(title: &str, arena: OwnedArena) -> Panel {
+    Panel::new(title.to_string(), arena)
+}
+
+/// An arena without free slots whose links have the neighbours that are given by slot.
+fn linked(slots: u32, neighbours: impl Fn(u32) -> (u32, u32)) -> OwnedArena {
+    let (prev, next) = (1..=slots).map(neighbours).map(|(prev, next)| (prev as u16, next as u16)).unzip();
+    let payload = (1..=slots).map(|slot| slot.wrapping_mul(65_537)).collect();
+    OwnedArena { prev, next, generation: vec![5; slots as usize], payload, header: vec![slots, slots, 0, 5] }
+}
+
+/// One chain through all slots.
+fn one_chain(slots: u32) -> OwnedArena {
+    linked(slots, |slot| (slot - 1, if slot == slots { 0 } else { slot + 1 }))
+}
+
+/// One closed chain through all slots.
+fn closed_chain(slots: u32) -> OwnedArena {
+    linked(slots, |slot| (if slot == 1 { slots } else { slot - 1 }, if slot == slots { 1 } else { slot + 1 }))
+}
+
+/// Chains of two, and if need be a last link alone.
+fn pairs(slots: u32) -> OwnedArena {
+    linked(slots, |slot| match slot % 2 {
+        1 if slot < slots => (0, slot + 1),
+        1 => (0, 0),
+        _ => (slot - 1, 0),
+    })
+}
+
+/// Arenas of every large shape, with their names.
+fn large() -> [(&'static str, OwnedArena); 4] {
+    [
+        ("one chain", one_chain(MOST)),
+        ("closed", closed_chain(MOST)),
+        ("pairs", pairs(MOST)),
+        ("lone", linked(MOST, |_| (0, 0))),
+    ]
+}
+
+/// The words of a column in the data of a page's first panel.
+fn column(page: &str, name: &str) -> Vec<u32> {
+    let data = page.split("id=\"data\">").nth(1).unwrap();
+    let data = data.split(&format!("\"{name}\":[")).nth(1).unwrap().split(']').next().unwrap();
+    let (width, text) = data.split_once(",\"").unwrap();
+    let digit = |byte| match byte {
+        b'A'..=b'Z' => u32::from(byte - b'A'),
+        b'a'..=b'z' => u32::from(byte - b'a') + 26,
+        b'0'..=b'9' => u32::from(byte - b'0') + 52,
+        b'+' => 62,
+        b'/' => 63,
+        _ => panic!("no digit of base64: {byte}"),
+    };
+    let mut bytes = Vec::new();
+    for four in text.trim_end_matches(['"', '=']).as_bytes().chunks(4) {
+        let word = (0..4).fold(0, |word, k| word << 6 | four.get(k).map_or(0, |&byte| digit(byte)));
+        bytes.extend_from_slice(&word.to_be_bytes()[1..four.len()]);
+    }
+    let low_first = |word: &[u8]| word.iter().rev().fold(0, |word, &byte| word << 8 | u32::from(byte));
+    bytes.chunks(width.parse().unwrap()).map(low_first).collect()
+}
+
+#[test]
+fn the_page_loads_nothing() {
+    for page in [written("check", "broken.txt", "nothing.html"), html::page(&[panel("one", one_chain(9))])] {
+        let policy = "http-equiv=\"Content-Security-Policy\" content=\"default-src 'none'; ";
+        assert_eq!(page.matches(policy).count(), 1);
+        for word in ["http:", "https:", "src=", "@import", "url(", "<link", "<iframe", "import(", "fetch("] {
+            assert!(!page.contains(word), "{word}");
+        }
+    }
+}
+
+#[test]
+fn the_same_arena_gives_the_same_page() {
+    let [one, two] = ["same1.html", "same2.html"].map(|out| written("check", "whole.txt", out));
+    assert!(one == two);
+}
+
+#[test]
+fn every_word_of_every_slot_is_in_the_page() {
+    let page = written("check", "whole.txt", "words.html");
+    let text = fs::read_to_string(arenas().join("whole.txt")).unwrap();
+    let lines = text.lines().filter(|line| line.starts_with(|first: char| first.is_ascii_digit()));
+    let rows: Vec<Vec<u32>> =
+        lines.map(|line| line.split_whitespace().map(|word| word.parse().unwrap()).collect()).collect();
+    for (k, name) in ["prev", "next", "generation", "payload"].iter().enumerate() {
+        assert!(column(&page, name).into_iter().eq(rows.iter().map(|row| row[k + 1])), "{name}");
+    }
+    assert_eq!(column(&page, "order"), [1, 5, 3, 2, 4, 7, 9, 8, 6]);
+    assert_eq!(column(&page, "lengths"), [3, 2, 1, 1, 2]);
+    assert_eq!(column(&page, "kinds"), [0, 2, 2, 1, 3]);
+    for fact in [
+        "<dt>Stack length</dt><dd>9</dd>",
+        "<dt>Link count</dt><dd>7</dd>",
+        "<dt>Root</dt><dd>8</dd>",
+        "<dt>Current generation</dt><dd>5</dd>",
+        "<dt>Open chains</dt><dd>1</dd>",
+        "<dt>Lone links</dt><dd>1</dd>",
+        "<dt>Closed chains</dt><dd>2</dd>",
+        "<dt>Free slots</dt><dd>2</dd>",
+        "<dt>Capacity</dt><dd>10</dd>",
+        "<p class=\"verdict passes\">passes the check</p>",
+        "generation=3\">3</a> (1 link)",
+    ] {
+        assert!(page.contains(fact), "{fact}");
+    }
+}
+
+#[test]
+fn a_broken_arena_says_why_without_a_script() {
+    let page = written("check", "broken.txt", "why.html");
+    let sentence = "slot 1: its next is 2, but the prev of slot 2 is 4, not 1";
+    let verdict =
+        format!("<p class=\"verdict refused\">refused with 11: {sentence} (2 faults at 2 slots)</p>");
+    assert!(page.contains(&verdict) && !page.contains("passes the check"));
+    assert!(page.contains("<h3>Faults: 2</h3>"));
+    assert!(page.contains(&format!("<li><b>1</b> {sentence}</li>")));
+    assert!(page.contains("<li><b>2</b> slot 2: its prev is 4, but slot 4 has no next</li>"));
+    assert_eq!(column(&page, "faults"), [1, 2]);
+}
+
+#[test]
+fn a_large_arena_makes_a_small_page_quickly() {
+    for (name, arena) in large() {
+        let start = Instant::now();
+        let page = html::page(&[panel(name, arena.clone())]);
+        assert!(start.elapsed() < Duration::from_secs(5), "{name}: {:?}", start.elapsed());
+        assert!(page.len() < 1_500_000, "{name}: {} bytes", page.len());
+        assert!(column(&page, "prev").into_iter().eq(arena.prev.iter().map(|&prev| u32::from(prev))));
+        assert!(column(&page, "payload") == arena.payload, "{name}");
+        let mut order = column(&page, "order");
+        order.sort_unstable();
+        assert!(order.into_iter().eq(1..=MOST), "{name}");
+    }
+    let [half, whole] = [MOST / 2, MOST].map(|slots| html::page(&[panel("pairs", pairs(slots))]).len());
+    assert!(whole < 2 * half + 1000, "{half} and {whole} bytes");
+}
+
+#[test]
+fn what_must_be_told_of_an_arena_that_passes_is_no_refusal() {
+    let sentence = Some("the generation overflowed".to_string());
+    let page = html::page(&[Panel { sentence, ..panel("told", one_chain(2)) }]);
+    assert!(page.contains("<p class=\"verdict passes\">passes the check</p>\n"));
+    assert!(page.contains("<p class=\"verdict told\">the generation overflowed</p>"));
+    assert!(!page.contains("verdict refused"));
+}
+
+/// Chromium, if it is here: what CHROMIUM names, else the first of its names on the PATH.
+fn chromium() -> Option<PathBuf> {
+    if let Some(named) = env::var_os("CHROMIUM") {
+        return Some(named.into());
+    }
+    let path = env::var_os("PATH")?;
+    let names = ["chromium", "chromium-browser", "google-chrome"];
+    env::split_paths(&path)
+        .flat_map(|folder| names.map(|name| folder.join(name)))
+        .find(|program| program.is_file())
+}
+
+/// A path as part of an address.
+fn address(path: &Path) -> String {
+    let plain = |byte: &u8| byte.is_ascii_alphanumeric() || b"/._-".contains(byte);
+    let sign = |byte: u8| if plain(&byte) { char::from(byte).to_string() } else { format!("%{byte:02X}") };
+    path.to_str().unwrap().bytes().map(sign).collect()
+}
+
+/// The document that Chromium makes of a page at a fragment, after a script that is added to it; none without Chromium.
+fn browsed(name: &str, page: &str, fragment: &str, script: &str) -> Option<String> {
+    let Some(chromium) = chromium() else {
+        // Written past the capture of the tests, so that it is seen.
+        let said =
+            format!("\nSKIPPED: Chromium is missing, so the page '{name}' was not opened in a browser\n");
+        let _ = io::stderr().write_all(said.as_bytes());
+        return None;
+    };
+    let folder = file(&format!("browsed-{name}"));
+    let _ = fs::remove_dir_all(&folder);
+    fs::create_dir_all(&folder).unwrap();
+    let [html, out, log] = ["page.html", "document.html", "log.txt"].map(|name| folder.join(name));
+    let page = page.replace("</body>", &format!("<script>\n{script}</script>\n</body>"));
+    fs::write(&html, page).unwrap();
+    let mut browser = Command::new(&chromium)
+        .args([
+            "--headless=new",
+            "--no-sandbox",
+            "--disable-gpu",
+            "--disable-dev-shm-usage",
+            "--no-first-run",
+        ])
+        .args([
+            "--enable-logging=stderr",
+            "--virtual-time-budget=2000",
+            "--window-size=1280,800",
+            "--dump-dom",
+        ])
+        .arg(format!("--user-data-dir={}", folder.join("profile").display()))
+        .arg(format!("file://{}{fragment}", address(&html)))
+        .stdout(File::create(&out).unwrap())
+        .stderr(File::create(&log).unwrap())
+        .spawn()
+        .unwrap_or_else(|error| panic!("{} does not start: {error}", chromium.display()));
+    let start = Instant::now();
+    while browser.try_wait().unwrap().is_none() {
+        if start.elapsed() > Duration::from_secs(60) {
+            let _ = browser.kill();
+            let _ = browser.wait();
+            panic!("Chromium hangs with the page '{name}'");
+        }
+        thread::sleep(Duration::from_millis(20));
+    }
+    let (document, log) = (fs::read(out).unwrap(), fs::read(log).unwrap());
+    let log = String::from_utf8_lossy(&log);
+    let _ = fs::remove_dir_all(folder.join("profile"));
+    assert!(!log.contains("CONSOLE"), "'{name}' has errors:\n{log}");
+    let document = String::from_utf8_lossy(&document).into_owned();
+    assert!(document.contains("data-ready=\"yes\""), "'{name}' is not ready:\n{log}");
+    Some(document)
+}
+
+/// What the added scripts use: the chosen slots of all panels, a box, a key, a search, and what was noted.
+const TOOLS: &str = "\
+const panels = [...document.querySelectorAll('.panel')];
+const chosen = () => panels.map((panel) => panel.dataset.chosen ?? '0').join('/');
+const box = (panel, slot) => document.getElementById(`panel-${panel}-slot-${slot}`);
+const list = (panel) => panels[panel - 1].querySelector('.list');
+const key = (node, key, shiftKey = false) => node.dispatchEvent(new KeyboardEvent('keydown', { key, shiftKey, bubbles: true, cancelable: true }));
+const found = () => document.getElementById('found').textContent;
+const look = (text, by) => { document.getElementById('wanted').value = text; document.getElementById('by').value = by; document.getElementById('search').requestSubmit(); };
+const noted = [];
+const note = (what) => { noted.push(what); document.body.dataset.noted = noted.join('; '); };
+";
+
+/// What an added script noted.
+fn noted(document: &str) -> Vec<&str> {
+    document.split("data-noted=\"").nth(1).unwrap().split('"').next().unwrap().split("; ").collect()
+}
+
+/// Two arenas that are compared are not taken for one before and after its compression, though each tells where its links
+/// came from; the slot that was asked for is chosen when the page opens.
+#[test]
+fn compared_arenas_are_followed_by_slot() {
+    let fault = |slot| Fault { slot, sentence: format!("slot {slot} differs") };
+    let compared = |title: &str, where_from: Vec<u16>| Panel {
+        where_from,
+        faults: vec![fault(3)],
+        ..panel(title, one_chain(3))
+    };
+    let [mut a, b] = [compared("A", vec![3, 2, 1]), compared("B", vec![2, 1, 3])];
+    a.around = Some(2);
+    let page = html::page(&[a, b]);
+    assert_eq!(page.matches("<h3>Differences: 1</h3>").count(), 2);
+    let steps = "
+note(chosen());
+box(2, 3).click(); note(chosen()); note(box(1, 1).querySelector('.tie').textContent);
+note(panels.map((panel) => panel.querySelector('.card .faulty').textContent).join(' / '));
+";
+    let Some(document) = browsed("compared", &page, "", &format!("{TOOLS}{steps}")) else { return };
+    assert_eq!(noted(&document), ["2/2", "3/3", "from 3", "slot 3 differs / slot 3 differs"]);
+}
+
+/// A link is followed by clicks and keys and searched for, and its partner in the other arena is chosen with it.
+#[cfg(feature = "level-three")]
+#[test]
+fn a_compression_is_followed_side_by_side() {
+    let page = written("compress", "whole.txt", "followed.html");
+    let steps = "
+box(1, 5).click(); note(chosen());
+panels[0].querySelector('.card .next').click(); note(chosen());
+key(list(2), 'ArrowLeft'); note(chosen());
+key(list(1), 'Home'); note(chosen());
+key(list(1), 'End'); note(chosen());
+box(2, 4).click(); note(chosen());
+key(list(2), 'ArrowLeft'); note(chosen());
+look('500', 'any'); note(chosen()); note(found());
+look('5', 'any'); note(found());
+look('5', 'any'); note(chosen()); note(found());
+key(document.getElementById('wanted'), 'Enter', true); note(found());
+look('0xffffffff', 'payload'); note(chosen()); note(found());
+look('77', 'any'); note(found());
+look('10', 'slot'); note(found());
+look('x', 'slot'); note(found());
+look('5', 'generation'); note(found());
+box(1, 8).click(); note(chosen()); note(location.hash);
+key(document.body, '/'); note(document.activeElement.id);
+note(panels[0].querySelector('.card dl').textContent);
+box(2, 2).click(); note(panels.map((panel) => panel.querySelector('.card dl').textContent).join(' / '));
+";
+    let Some(document) = browsed("compression", &page, "", &format!("{TOOLS}{steps}")) else { return };
+    assert_eq!(
+        noted(&document),
+        [
+            "5/2",
+            "3/3",
+            "5/2",
+            "1/1",
+            "3/3",
+            "4/4",
+            "2/5",
+            "5/2",
+            "1 of 1 hit: payload of slot 5 in whole.txt",
+            "1 of 2 hits: slot 5 in whole.txt",
+            "2/5",
+            "2 of 2 hits: slot 5 in whole.txt, canonically compressed",
+            "1 of 2 hits: slot 5 in whole.txt",
+            "9/7",
+            "1 of 1 hit: payload of slot 9 in whole.txt",
+            "Not found: no slot and no link with payload 77.",
+            "Slot 10 is above the stack.",
+            "Type a number, such as 50 or 0x32.",
+            "1 of 4 hits: generation of slot 1 in whole.txt",
+            "8/0",
+            "#panel=1&amp;slot=8",
+            "wanted",
+            "Freeon the freelist, 1 of 2",
+            "Payload500 (0x1f4)Generation2, current is 5Chainopen, link 2 of 3Went toslot 2 / \
+             Payload500 (0x1f4)Generation6Chainopen, link 2 of 3Came fromslot 5",
+        ]
+    );
+}
+
+#[test]
+fn wrong_pointers_and_free_slots_are_shown() {
+    // 7 names 12 and 5, the freelist 8 -> 6 leads to 70, and 9 is free but not on it.
+    let mut arena = linked(9, |slot| {
+        [(0, 5), (4, 4), (5, 0), (2, 2), (1, 3), (0, 70), (12, 5), (0, 6), (0, 9)][slot as usize - 1]
+    });
+    (arena.generation[5], arena.generation[7], arena.generation[8]) = (0, 0, 0);
+    arena.header = vec![9, 6, 8, 5];
+    let compared = panel("compared", one_chain(7));
+    let mut broken = panel("a</script><b>\u{2028}", arena);
+    broken.sentence = Some("refused".to_string());
+    broken.faults = [6, 7].map(|slot| Fault { slot, sentence: format!("slot {slot} is wrong") }).to_vec();
+    let steps = "
+note(document.querySelector('h2').textContent);
+note([...document.querySelectorAll('.end.wrong')].map((end) => end.textContent).join(' '));
+note([...document.querySelectorAll('.box.free')].map((box) => box.dataset.slot).join(' '));
+note([...document.querySelectorAll('.box.broken')].map((box) => box.dataset.slot).join(' '));
+note([...list(1).querySelectorAll('h3')].map((heading) => heading.textContent).join(', '));
+key(document.querySelector('.faults'), 'ArrowDown'); note(chosen());
+key(document.querySelector('.faults'), 'ArrowDown'); note(chosen());
+key(document.querySelector('.faults'), 'ArrowDown'); note(chosen());
+key(list(1), 'ArrowLeft'); note(chosen());
+note(document.querySelector('.card .prev').textContent);
+note(document.querySelector('.card .faulty').textContent);
+document.querySelector('.end.leads').click(); note(chosen());
+document.querySelector('.fault').click(); note(chosen());
+box(1, 9).click(); note(chosen());
+note(document.querySelector('noscript').childElementCount);
+";
+    let page = html::page(&[broken, compared]);
+    let Some(document) = browsed("broken", &page, "", &format!("{TOOLS}{steps}")) else { return };
+    assert_eq!(
+        noted(&document),
+        [
+            "a&lt;/script&gt;&lt;b&gt;\u{fffd}",
+            "prev12 next5 next70",
+            "8 6 9",
+            "7 6",
+            "Open chains2, Closed chains1, Freelist2, Free, not on the freelist1",
+            "6/6",
+            "7/7",
+            "7/7",
+            "7/7",
+            "prev12 above the stack",
+            "slot 7 is wrong",
+            "5/5",
+            "6/6",
+            "9/0",
+            "0",
+        ]
+    );
+}
+
+#[test]
+fn of_a_large_arena_only_what_is_seen_is_drawn() {
+    // All shapes stand side by side on one page, since each start of the browser takes a second.
+    let panels: Vec<Panel> = large().into_iter().map(|(name, arena)| panel(name, arena)).collect();
+    let mut broken = panel("broken", one_chain(MOST));
+    broken.faults = (1..=MOST)
+        .step_by(10)
+        .map(|slot| Fault { slot, sentence: format!("slot {slot} is wrong") })
+        .collect();
+    let panels: Vec<Panel> = panels.into_iter().chain([broken]).collect();
+    let steps = "
+note(chosen());
+note(panels.every((panel) => panel.querySelectorAll('.box').length < 300));
+note(document.querySelectorAll('.fault').length < 50);
+for (let panel = 1; panel <= 5; panel++) { list(panel).scrollTop = 1e9; list(panel).dispatchEvent(new Event('scroll')); }
+for (let panel = 1; panel <= 5; panel++) note(box(panel, 65535) !== null);
+note(panels.every((panel) => panel.querySelectorAll('.box').length < 300));
+for (let panel = 1; panel <= 5; panel++) { look('40000', 'slot'); note(chosen()); note(box(panel, 40000).classList.contains('chosen')); }
+";
+    let page = html::page(&panels);
+    let Some(document) = browsed("large", &page, "#slot=60000", &format!("{TOOLS}{steps}")) else { return };
+    let mut expected = vec!["60000/0/0/0/0", "true", "true"];
+    expected.extend(["true"; 6]);
+    for chosen in ["40000/0/0/0/0", "0/40000/0/0/0", "0/0/40000/0/0", "0/0/0/40000/0", "0/0/0/0/40000"] {
+        expected.extend([chosen, "true"]);
+    }
+    assert_eq!(noted(&document), expected);
+}
