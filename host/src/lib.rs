@@ -34,6 +34,8 @@
 //! level's archive with the Rattle toolchain and links it. The calls of a level whose feature is off are not there. The
 //! feature `alloc` adds `OwnedArena`, whose columns are vectors.
 //!
+//! The archives hold code for x86-64 Linux; for another target the build stops with a sentence.
+//!
 //! # Buffers do not overlap
 //!
 //! A call that writes takes its slices as `&mut`, so that none of them overlaps another one, be it a column, a report or a
