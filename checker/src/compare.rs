@@ -14,8 +14,8 @@ use crate::alike::{Alike, most_alike};
 use crate::arguments::How;
 use crate::by_slot::BySlot;
 use crate::chains::{Chain, chains, without_partner};
-use crate::checked::{Checked, chain_counts};
 use crate::compress::Compressed;
+use crate::judged::{Judged, chain_counts};
 use crate::panel::{Fault, Panel};
 
 /// How many chains without a partner are shown, and how many links of each.
@@ -26,22 +26,22 @@ const LINKS: usize = 8;
 struct Side<'a> {
     /// A or B
     label: &'static str,
-    checked: &'a Checked,
+    judged: &'a Judged,
     compressed: Compressed,
 }
 
 impl<'a> Side<'a> {
     /// Compresses an arena. The generation does not matter, so that it is reset and cannot overflow.
-    fn new(label: &'static str, checked: &'a Checked) -> Result<Self, String> {
+    fn new(label: &'static str, judged: &'a Judged) -> Result<Self, String> {
         let how = How { reset: true, order_preserving: false };
-        let compressed = Compressed::of(&checked.arena, how);
-        let compressed = compressed.map_err(|refusal| format!("{}: {refusal}", checked.name))?;
-        Ok(Self { label, checked, compressed })
+        let compressed = Compressed::of(&judged.arena, how);
+        let compressed = compressed.map_err(|refusal| format!("{}: {refusal}", judged.name))?;
+        Ok(Self { label, judged, compressed })
     }
 
     /// Its name and what it holds, in numbers.
     fn line(&self) -> String {
-        format!("{}: {}: {}\n", self.label, self.checked.name, chain_counts(&self.compressed.after))
+        format!("{}: {}: {}\n", self.label, self.judged.name, chain_counts(&self.compressed.after))
     }
 
     /// The slot that a link of a chain had before the compression.
@@ -83,7 +83,7 @@ impl<'a> Side<'a> {
             let (first, last) = (chain.first, chain.first + chain.len() as u32 - 1);
             (first..=last).map(move |slot| fault(slot, first, last))
         };
-        let title = format!("{}: {}, canonically compressed with reset", self.label, self.checked.name);
+        let title = format!("{}: {}, canonically compressed with reset", self.label, self.judged.name);
         Panel {
             sentence: Some(format!("{} only in {}", counted(chains.len()), self.label))
                 .filter(|_| !chains.is_empty()),
@@ -95,13 +95,13 @@ impl<'a> Side<'a> {
 }
 
 /// Compares two arenas if both pass the check. The status is 0 if they hold the same.
-pub fn compare(a: &Checked, b: &Checked) -> Result<Shown, String> {
-    let refused: Vec<&Checked> = [a, b].into_iter().filter(|checked| checked.refused.is_some()).collect();
+pub fn compare(a: &Judged, b: &Judged) -> Result<Shown, String> {
+    let refused: Vec<&Judged> = [a, b].into_iter().filter(|judged| judged.refused.is_some()).collect();
     if !refused.is_empty() {
-        let text = refused.iter().map(|checked| checked.text()).collect::<String>() + "not compared\n";
+        let text = refused.iter().map(|judged| judged.text()).collect::<String>() + "not compared\n";
         return Ok(Shown {
             text,
-            panels: refused.iter().map(|checked| checked.panel()).collect(),
+            panels: refused.iter().map(|judged| judged.panel()).collect(),
             passes: false,
         });
     }
@@ -244,7 +244,7 @@ mod tests {
 
     /// Compares two arenas that hold given chains, with what it is expected to say of them.
     fn try_both(a: (&[Payloads], OwnedArena), b: (&[Payloads], OwnedArena)) -> Shown {
-        let [checked_a, checked_b] = [a.1, b.1].map(|arena| Checked::new("an arena".to_string(), arena));
+        let [checked_a, checked_b] = [a.1, b.1].map(|arena| Judged::new("an arena".to_string(), arena));
         let shown = compare(&checked_a, &checked_b).unwrap();
         let left = left_over(a.0, b.0);
         assert_eq!(
@@ -399,8 +399,8 @@ mod tests {
                 .take(253)
                 .collect(),
         ];
-        let arenas: Vec<Checked> =
-            shapes.iter().map(|chains| Checked::new(String::new(), random.arena(chains, 0))).collect();
+        let arenas: Vec<Judged> =
+            shapes.iter().map(|chains| Judged::new(String::new(), random.arena(chains, 0))).collect();
         for (a, b) in arenas.iter().zip(arenas.iter().cycle().skip(1)) {
             assert!(compare(a, a).unwrap().passes);
             assert!(!compare(a, b).unwrap().passes);

@@ -7,7 +7,7 @@ use chain_arena::{Header, NewGeneration, OwnedArena, Refusal, Slot};
 use crate::Shown;
 use crate::arguments::How;
 use crate::by_slot::BySlot;
-use crate::checked::{Checked, rows};
+use crate::judged::{Judged, rows};
 use crate::panel::Panel;
 
 /// What is told of a compression that made the generation overflow.
@@ -75,23 +75,23 @@ fn in_order(arena: &mut OwnedArena, generation: NewGeneration) -> Result<(Vec<Sl
 }
 
 /// Compresses an arena if it passes the check, and shows it before and after.
-pub fn compress(checked: &Checked, how: How) -> Result<Shown, String> {
-    if checked.refused.is_some() {
-        return Ok(checked.show());
+pub fn compress(judged: &Judged, how: How) -> Result<Shown, String> {
+    if judged.refused.is_some() {
+        return Ok(judged.show());
     }
     let compressed =
-        Compressed::of(&checked.arena, how).map_err(|refusal| format!("{}: {refusal}", checked.name))?;
-    let title = format!("{}, {}", checked.name, done(how));
-    let around = checked.around.map(|slot| compressed.went_to(slot));
+        Compressed::of(&judged.arena, how).map_err(|refusal| format!("{}: {refusal}", judged.name))?;
+    let title = format!("{}, {}", judged.name, done(how));
+    let around = judged.around.map(|slot| compressed.went_to(slot));
     let mut text = format!("{title}:\n");
-    text += &match checked.around {
+    text += &match judged.around {
         Some(slot) => compressed.move_of(slot),
-        None => compressed.table(&checked.arena),
+        None => compressed.table(&judged.arena),
     };
     let overflowed = Some(OVERFLOWED.to_string()).filter(|_| compressed.overflowed);
     text.extend(overflowed.iter().map(|sentence| format!("{sentence}\n")));
-    text += &format!("before: {}\n{}", header(&checked.arena), checked.rows());
-    let mut panels = vec![checked.panel()];
+    text += &format!("before: {}\n{}", header(&judged.arena), judged.rows());
+    let mut panels = vec![judged.panel()];
     // The chain of a slot that was free is nowhere afterwards.
     if around != Some(None) {
         let around = around.flatten();

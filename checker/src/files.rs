@@ -2,6 +2,8 @@
 
 use std::fs::{self, Metadata};
 use std::io::{self, Read};
+use std::os::fd::AsFd;
+use std::os::unix::fs::MetadataExt;
 use std::path::{Path, PathBuf};
 
 use crate::quote::{plain, quoted};
@@ -122,32 +124,17 @@ fn resolved(path: &Path) -> Option<PathBuf> {
 type FileId = (u64, u64);
 
 /// What the file system knows a file by. A device or a pipe is no file that could be written over.
-#[cfg(unix)]
 fn file_id(data: &Metadata) -> Option<FileId> {
-    use std::os::unix::fs::MetadataExt;
     data.is_file().then(|| (data.dev(), data.ino()))
 }
 
-/// Elsewhere files are told apart by their paths alone.
-#[cfg(not(unix))]
-fn file_id(_: &Metadata) -> Option<FileId> {
-    None
-}
-
 /// The file that standard input or output is, if it is one.
-#[cfg(unix)]
-fn standard(stream: &impl std::os::fd::AsFd) -> Option<FileId> {
+fn standard(stream: &impl AsFd) -> Option<FileId> {
     let file = fs::File::from(stream.as_fd().try_clone_to_owned().ok()?);
     file_id(&file.metadata().ok()?)
 }
 
-/// Elsewhere a redirection is not seen.
-#[cfg(not(unix))]
-fn standard<T>(_: &T) -> Option<FileId> {
-    None
-}
-
-#[cfg(all(test, unix))]
+#[cfg(test)]
 mod tests {
     use super::*;
     use std::os::unix::fs::symlink;

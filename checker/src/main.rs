@@ -7,7 +7,6 @@ mod arguments;
 mod by_slot;
 #[cfg(feature = "level-three")]
 mod chains;
-mod checked;
 #[cfg(feature = "level-three")]
 mod compare;
 #[cfg(feature = "level-three")]
@@ -16,6 +15,7 @@ mod explain;
 mod files;
 mod format;
 mod html;
+mod judged;
 mod panel;
 mod picture;
 mod quote;
@@ -30,7 +30,7 @@ use std::io::{self, ErrorKind, Write};
 use std::process::ExitCode;
 
 use arguments::{Asked, Command, How, Job};
-use checked::Checked;
+use judged::Judged;
 use panel::Panel;
 #[cfg(feature = "level-three")]
 use {compare::compare, compress::compress};
@@ -86,20 +86,20 @@ impl Shown {
 
 /// Level Three is not linked.
 #[cfg(not(feature = "level-three"))]
-fn compress(_: &Checked, _: How) -> Result<Shown, String> {
+fn compress(_: &Judged, _: How) -> Result<Shown, String> {
     Err("compress needs Level Three: build with the feature level-three".to_string())
 }
 
 /// Level Three is not linked.
 #[cfg(not(feature = "level-three"))]
-fn compare(_: &Checked, _: &Checked) -> Result<Shown, String> {
+fn compare(_: &Judged, _: &Judged) -> Result<Shown, String> {
     Err("compare needs Level Three: build with the feature level-three".to_string())
 }
 
 /// Checks and compresses the whole arena of its own, and checks the broken one.
 fn samples() -> Result<Shown, String> {
-    let whole = Checked::parse("K11".to_string(), WHOLE.as_bytes())?;
-    let broken = Checked::parse("a broken arena".to_string(), BROKEN.as_bytes())?.show();
+    let whole = Judged::parse("K11".to_string(), WHOLE.as_bytes())?;
+    let broken = Judged::parse("a broken arena".to_string(), BROKEN.as_bytes())?.show();
     let compressed = compress(&whole, How::default())
         .unwrap_or_else(|message| Shown { text: message + "\n", ..whole.show() });
     Ok(Shown {
@@ -113,9 +113,9 @@ fn samples() -> Result<Shown, String> {
 fn done(job: Job) -> Result<Shown, String> {
     files::no_clash(&job.command.sources(), &job.targets)?;
     let shown = match &job.command {
-        Command::Check(file) => Checked::read(file)?.around(job.around)?.show(),
-        Command::Compress(file, how) => compress(&Checked::read(file)?.around(job.around)?, *how)?,
-        Command::Compare(a, b) => compare(&Checked::read(a)?, &Checked::read(b)?)?,
+        Command::Check(file) => Judged::read(file)?.around(job.around)?.show(),
+        Command::Compress(file, how) => compress(&Judged::read(file)?.around(job.around)?, *how)?,
+        Command::Compare(a, b) => compare(&Judged::read(a)?, &Judged::read(b)?)?,
         Command::Samples => samples()?,
     };
     for target in &job.targets {

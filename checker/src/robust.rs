@@ -5,7 +5,7 @@ mod xml;
 
 use crate::Shown;
 use crate::arguments::How;
-use crate::checked::Checked;
+use crate::judged::Judged;
 use crate::panel::Panel;
 use crate::picture::Picture;
 use crate::random::{Random, text};
@@ -86,7 +86,7 @@ fn draw_if_done(shown: Result<Shown, String>) {
 }
 
 /// Shows an arena in every way there is.
-fn show(checked: Checked, other: &Checked, slot: u32) -> bool {
+fn show(checked: Judged, other: &Judged, slot: u32) -> bool {
     let shown = checked.show();
     draw(&shown.panels);
     let mut slots: Vec<u32> =
@@ -113,7 +113,7 @@ fn damaged_texts_do_no_harm() {
         let arena = random.arena(&chains, round % 3);
         let bytes = damaged(&text(&arena), &mut random);
         let name = format!("{}<\u{1}\u{ffff}&\"'>]]>", round);
-        seen[match Checked::parse(name.clone(), &bytes) {
+        seen[match Judged::parse(name.clone(), &bytes) {
             Err(message) => {
                 let message = message.strip_prefix(&name).unwrap();
                 assert!(message.contains(": found ") && !message.contains(char::is_control), "{message}");
@@ -121,7 +121,7 @@ fn damaged_texts_do_no_harm() {
             }
             Ok(checked) => {
                 let slot = 1 + random.below(9) as u32;
-                let other = Checked::new(String::new(), arena);
+                let other = Judged::new(String::new(), arena);
                 1 + usize::from(show(checked, &other, slot))
             }
         }] += 1;
@@ -144,9 +144,9 @@ fn columns_and_headers_of_any_length_do_no_harm() {
         arena.payload.resize(lengths[3], u32::MAX);
         arena.header.resize(lengths[4], u32::MAX);
         arena.header.iter_mut().for_each(|word| *word ^= if random.below(5) == 0 { u32::MAX } else { 0 });
-        let read = Checked::parse("read".to_string(), text(&arena).as_bytes()).unwrap();
+        let read = Judged::parse("read".to_string(), text(&arena).as_bytes()).unwrap();
         assert_eq!(read.arena, arena);
-        show(read, &Checked::new(String::new(), whole), 1 + random.below(14) as u32);
+        show(read, &Judged::new(String::new(), whole), 1 + random.below(14) as u32);
     }
 }
 
@@ -162,8 +162,8 @@ fn many_faults_do_no_harm() {
             (*prev, *next) = (*next, 7);
         }
     }
-    let whole = Checked::new(String::new(), random.arena(&chains, 0));
+    let whole = Judged::new(String::new(), random.arena(&chains, 0));
     for slot in [1, 7, 40_000] {
-        assert!(!show(Checked::new(String::new(), arena.clone()), &whole, slot));
+        assert!(!show(Judged::new(String::new(), arena.clone()), &whole, slot));
     }
 }

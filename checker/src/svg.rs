@@ -49,6 +49,7 @@ text { font: 14px sans-serif; fill: #222 }
 .asked rect { stroke: #06c; stroke-width: 4 }
 .broken rect { fill: #fdd; stroke: #d00; stroke-width: 3 }
 .broken text, text.wrong { fill: #b00 }
+text.told { fill: #850 }
 .broken.asked rect { stroke: #06c; stroke-width: 4 }
 text.before { text-anchor: end }
 path { fill: none; stroke-width: 1.5 }
@@ -221,7 +222,7 @@ impl Drawing {
         let lines = drawn(panel, &picture);
         self.text("title", &panel.title);
         if let Some(sentence) = &panel.sentence {
-            self.text("wrong", sentence);
+            self.text(if panel.passes { "told" } else { "wrong" }, sentence);
         }
         self.header(panel);
         if picture.rows.is_empty() {

@@ -11,14 +11,14 @@ use crate::panel::Panel;
 use crate::picture::Picture;
 
 /// An arena with what the check says of it, and the slot whose chain alone is shown, if not all is.
-pub struct Checked {
+pub struct Judged {
     pub name: String,
     pub arena: OwnedArena,
     pub refused: Option<(Refusal, Why)>,
     pub around: Option<u32>,
 }
 
-impl Checked {
+impl Judged {
     /// Checks an arena.
     pub fn new(name: String, arena: OwnedArena) -> Self {
         let refused = arena.as_arena().check().err().map(|refusal| (refusal, explain(&arena, refusal)));
