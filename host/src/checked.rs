@@ -173,7 +173,7 @@ impl<'a> Checked<'a> {
     #[must_use]
     #[inline]
     pub fn are_neighbors(&self, p_prev: Ptr, p_next: Ptr) -> bool {
-        self.contains(p_next) && self.next(p_prev) == Ok(Some(p_next))
+        self.next(p_prev) == Ok(Some(p_next))
     }
 
     /// The links of `p`'s chain in the order of [`Arena::walk`]: from `p` to the end of the chain, then from the link before
@@ -259,7 +259,8 @@ impl<'a> Chain<'a> {
         Self { checked, start, position: start, along_next: true }
     }
 
-    /// Whether the chain is closed, that is whether its links go round.
+    /// Whether the chain is closed, that is whether its links go round. It does not matter how many of them were taken
+    /// already; the time is in proportion to the chain.
     #[must_use]
     pub fn is_closed(&self) -> bool {
         let mut slot = self.start;

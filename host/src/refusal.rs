@@ -45,7 +45,17 @@ macro_rules! kinds {
     ($($number:literal $name:ident $words:literal)*) => {
         /// Why a call refuses, by name. The numbers are those of the calls; `kind as u32` gives them too.
         ///
-        /// A later version may have more of them.
+        /// A later version may have more of them, so that a `match` needs an arm for the rest:
+        ///
+        /// ```compile_fail,E0004
+        /// # use chain_arena::RefusalKind;
+        /// fn is_known(kind: RefusalKind) -> bool {
+        ///     match kind {
+        $(#[doc = concat!("         RefusalKind::", stringify!($name), " => true,")])*
+        ///         RefusalKind::Unknown => false,
+        ///     }
+        /// }
+        /// ```
         #[derive(Clone, Copy, Debug, PartialEq, Eq, PartialOrd, Ord, Hash)]
         #[repr(u32)]
         #[non_exhaustive]

@@ -141,44 +141,89 @@ fn the_codes_and_word_counts_are_those_of_the_wrapper() {
     assert_eq!(self::constants("CHAIN_ARENA_HEADER_"), [(Header::WORDS as u32, "WORDS".to_string())]);
 }
 
-/// The numbers that are told of a method's own refusals, behind those of the check.
-fn documented(source: &str, method: &str) -> BTreeSet<u32> {
+/// The numbers that are told under `# Errors` of a method, in their order, behind those of the check, which are told if `checks`.
+fn documented(source: &str, method: &str, checks: bool) -> Vec<u32> {
     let start = source.find(&format!("    pub fn {method}")).unwrap_or_else(|| panic!("no method {method}"));
-    let lines = source[..start]
-        .lines()
-        .rev()
-        .take_while(|line| line.trim_start().starts_with("//") || line.contains("#["));
+    let doc = |line: &&str| line.trim_start().starts_with("//") || line.contains("#[");
+    let lines = source[..start].trim_end_matches(' ').lines().rev().take_while(doc);
     let errors: Vec<&str> = lines.take_while(|line| !line.contains("# Errors")).collect();
     let text = errors.into_iter().rev().map(|line| line.trim().trim_start_matches("///")).collect::<String>();
     let own = text.split("What is refused of a command").next().unwrap();
-    let own =
-        own.split_once("1 to 11").unwrap_or_else(|| panic!("{method} does not tell the check's numbers")).1;
+    let own = match own.split_once("1 to 11") {
+        Some((before, own)) if checks && before.trim().is_empty() => own,
+        None if !checks => own,
+        _ => panic!("{method} tells: {text}"),
+    };
     own.split(|c: char| !c.is_ascii_digit())
         .filter_map(|word| word.parse().ok())
         .filter(|&n| n > 11)
         .collect()
 }
 
+/// What each call refuses of its own, in its order (REFERENCE, the call's section).
+const ORDER: [(&str, &[u32]); 18] = [
+    ("check", &[]),
+    ("get_link", &[12]),
+    ("get_link_no_gen", &[12]),
+    ("are_neighbors", &[]),
+    ("walk_start", &[12]),
+    ("walk_step", &[]),
+    ("connect", &[12, 13, 12, 13]),
+    ("break_prev", &[12, 13]),
+    ("break_next", &[12, 13]),
+    ("exchange_next", &[12, 13]),
+    ("remove", &[12]),
+    ("drain", &[12, 14]),
+    ("set_generation", &[15]),
+    ("inc_generation", &[]),
+    ("canonicalize_freelist", &[]),
+    ("run", &[16, 14]),
+    ("compress_with", &[14]),
+    ("compress_canonical", &[14]),
+];
+
 #[test]
 fn each_method_tells_the_numbers_of_its_call() {
     let own: Vec<Row> =
         told("docs/REFERENCE.md").into_iter().filter(|row| (12..100).contains(&row.0)).collect();
-    for level in levels::LEVELS {
-        let walk = if level.name == "level_one" { read("host/src/walk.rs") } else { String::new() };
+    let calls =
+        levels::LEVELS.iter().flat_map(|level| level.exports.iter().map(move |export| (level, export)));
+    assert_eq!(calls.clone().count(), ORDER.len());
+    for ((level, export), (call, order)) in calls.zip(ORDER) {
+        assert_eq!(export.strip_prefix("chain_arena_"), Some(call));
+        let called = |calls: &str| calls.split(';').next().unwrap().split(", ").any(|name| name == call);
+        let numbers = own.iter().filter(|(.., calls)| called(calls)).map(|(number, ..)| *number);
+        assert_eq!(
+            order.iter().copied().collect::<BTreeSet<u32>>(),
+            numbers.collect(),
+            "{call} in the table"
+        );
+        let walk = if call == "walk_step" { read("host/src/walk.rs") } else { String::new() };
         let source = read(&format!("host/src/{}.rs", level.name)) + &walk;
-        for call in level.exports.iter().map(|export| export.trim_start_matches("chain_arena_")) {
-            let numbers: BTreeSet<u32> = own
-                .iter()
-                .filter(|(.., calls)| calls.split(';').next().unwrap().split(", ").any(|name| name == call))
-                .map(|(number, ..)| *number)
-                .collect();
-            let method = match call {
-                "walk_step" => "step(",
-                "run" => "run_words(",
-                "drain" | "compress_with" | "compress_canonical" => &format!("{call}<"),
-                _ => &format!("{call}("),
-            };
-            assert_eq!(documented(&source, method), numbers, "{call}");
-        }
+        let method = match call {
+            "walk_step" => "step(",
+            "run" => "run_words(",
+            "drain" | "compress_with" | "compress_canonical" => &format!("{call}<"),
+            _ => &format!("{call}("),
+        };
+        assert_eq!(documented(&source, method, true), order, "{call}");
     }
+}
+
+#[test]
+fn each_method_that_is_no_call_tells_its_numbers() {
+    let [one, two, view] =
+        ["level_one", "level_two", "checked"].map(|name| read(&format!("host/src/{name}.rs")));
+    assert_eq!(documented(&one, "walk(", true), [12]);
+    assert_eq!(documented(&one, "walk_from(", true), []);
+    assert_eq!(documented(&two, "run<", true), []);
+    assert_eq!(documented(&view, "checked(&self) -> Result<Checked<'a>", true), []);
+    assert_eq!(documented(&view, "checked(&self) -> Result<Checked<'_>", true), []);
+    for method in ["link(", "link_no_gen(", "payload(", "prev(", "next(", "chain(", "chain_from_first("] {
+        assert_eq!(documented(&view, method, false), [12], "{method}");
+    }
+    assert!(
+        one.contains("[`Checked::chain`](crate::Checked::chain) gives the same links"),
+        "walk points to the view"
+    );
 }

@@ -201,6 +201,7 @@ mod level_one {
             assert_eq!(chain.is_closed(), from % 2 == 0);
             assert!(chain.by_ref().eq(walk.map(|slot| (p(slot), checked.link(p(slot)).unwrap()))));
             assert_eq!((chain.next(), chain.next()), (None, None));
+            assert_eq!(chain.is_closed(), from % 2 == 0, "also when all links are taken");
             assert_eq!(slots(checked.chain_from_first(p(from)).unwrap()), along_next);
         }
         assert_eq!(checked.chains().map(slots).collect::<Vec<_>>(), [[1, 5], [2, 4]]);

@@ -167,12 +167,26 @@ fn the_view_of_another_arena_is_found_out() {
 }
 
 #[test]
-fn a_long_chain_is_read_in_linear_time() {
+fn the_largest_arenas_are_read_in_linear_time() {
     let style = random::Style { free: 0, longest: LIMIT, even: true, scattered: true, closed: 0 };
-    let a = random::whole(&mut Random::new(1), LIMIT, LIMIT, style);
-    let view = a.as_arena().checked().unwrap();
-    let p = Ptr { slot: 1, generation: a.generation[0] };
-    assert_eq!(view.chain(p).unwrap().count(), LIMIT);
-    assert_eq!(view.chains().map(Iterator::count).collect::<Vec<_>>(), [LIMIT]);
-    assert!(a.as_arena().walk(p).unwrap().take(50).eq(view.chain(p).unwrap().map(|(p, _)| p).take(50)));
+    let shapes = [
+        style,
+        random::Style { closed: 16, ..style },
+        random::Style { longest: 1, ..style },
+        random::Style { longest: 2, closed: 16, ..style },
+        random::Style { free: 8, longest: 3, closed: 8, ..style },
+    ];
+    for (seed, style) in shapes.into_iter().enumerate() {
+        let a = random::whole(&mut Random::new(seed as u64), LIMIT, LIMIT, style);
+        let began = std::time::Instant::now();
+        let view = a.as_arena().checked().unwrap();
+        assert_eq!(view.links().count(), a.links());
+        assert_eq!(view.chains().flatten().count(), a.links());
+        let p = a.ptr(a.link_slots().next().unwrap());
+        let chain: Vec<Ptr> = view.chain(p).unwrap().map(|(p, _)| p).collect();
+        assert_eq!(view.chain_from_first(p).unwrap().count(), chain.len());
+        // It takes milliseconds; with a check for each link it would take a minute.
+        assert!(began.elapsed() < std::time::Duration::from_secs(3), "{style:?}: {:?}", began.elapsed());
+        assert!(a.as_arena().walk(p).unwrap().take(50).eq(chain.into_iter().take(50)));
+    }
 }
