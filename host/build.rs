@@ -111,7 +111,7 @@ fn prove(root: &Path, levels: &[&str], out: &Path) {
             "{said}\n`bash archives` failed. A folder with ready archives can be named in {READY}."
         ));
     }
-    if !said.is_empty() && messages.is_none() {
+    if said.iter().any(|line| line.contains(" is proved")) && messages.is_none() {
         println!("cargo::warning=the archives were proved and compiled in {} s", began.elapsed().as_secs());
     }
 }
@@ -124,6 +124,9 @@ fn ready_folder(named: &Path) -> PathBuf {
 
 /// Copies a ready archive of each level into the folder.
 fn copy(ready: &Path, levels: &[&str], out: &Path) {
+    if !ready.is_dir() {
+        stop(&format!("{READY} names {}, and there is no such folder", ready.display()));
+    }
     let held = |level: &&str| ready.join(archive(level)).is_file();
     let lacks: Vec<&str> = levels.iter().copied().filter(|level| !held(level)).collect();
     if !lacks.is_empty() {
@@ -140,9 +143,14 @@ fn copy(ready: &Path, levels: &[&str], out: &Path) {
         ));
     }
     for level in levels {
-        let from = ready.join(archive(level));
+        let (from, to) = (ready.join(archive(level)), out.join(archive(level)));
         println!("cargo::rerun-if-changed={}", from.display());
-        if let Err(error) = fs::copy(&from, out.join(archive(level))) {
+        if fs::canonicalize(&from).ok() == fs::canonicalize(&to).ok() {
+            continue;
+        }
+        // A copy keeps the permissions, so that an old one may not be written over.
+        let _ = fs::remove_file(&to);
+        if let Err(error) = fs::copy(&from, &to) {
             stop(&format!("{} could not be copied: {error}", from.display()));
         }
     }
@@ -157,6 +165,11 @@ fn main() {
     let out = PathBuf::from(env::var_os("OUT_DIR").expect("cargo sets OUT_DIR"));
     let root = Path::new("..");
     println!("cargo::rerun-if-env-changed={READY}");
+    let named = env::var_os(READY).map(PathBuf::from).filter(|folder| !folder.as_os_str().is_empty());
+    if named.as_ref().is_some_and(|folder| folder.is_relative()) {
+        // The same words mean another folder where cargo is called from elsewhere.
+        println!("cargo::rerun-if-env-changed=PWD");
+    }
     for read in ["build.rs", "levels.rs"] {
         println!("cargo::rerun-if-changed={read}");
     }
@@ -169,8 +182,8 @@ fn main() {
     for level in LEVELS.iter().filter(|level| !wanted(level)) {
         let _ = fs::remove_file(out.join(archive(level.name)));
     }
-    match env::var_os(READY).filter(|folder| !folder.is_empty()) {
-        Some(ready) => copy(&ready_folder(Path::new(&ready)), &levels, &out),
+    match named {
+        Some(named) => copy(&ready_folder(&named), &levels, &out),
         None if levels.is_empty() => {}
         None if !root.join("archives").is_file() => stop(&format!(
             "this package stands alone, so its archives cannot be proved here: {READY} must name a folder with ready ones"

@@ -7,8 +7,9 @@ use crate::{Arena, ArenaMut, Header, Link, LinkNoGen, Ptr, Refusal, RefusalKind,
 /// An arena that has passed the check, borrowed so that it cannot change.
 ///
 /// Every call of [`Arena`] checks the whole arena first. Here the one proved check of [`Arena::checked`] serves all reads:
-/// each takes constant time, and an iterator takes time in proportion to the links that it visits. What follows the check
-/// is safe Rust, not proved but tested to answer what the proved calls answer.
+/// each takes constant time, a chain takes time in proportion to its links, and the lists of all chains and of all links in
+/// proportion to the stack. What follows the check is safe Rust, not proved but tested to answer what the proved calls
+/// answer.
 ///
 /// ```
 /// use chain_arena::{Arena, Header, Ptr};
@@ -63,6 +64,18 @@ impl<'a> Arena<'a> {
 }
 
 impl ArenaMut<'_> {
+    /// Checks the arena once, for any number of reads: [`Arena::checked`].
+    ///
+    /// # Errors
+    ///
+    /// 1 to 11 as [`Arena::check`].
+    pub fn checked(&self) -> Result<Checked<'_>, Refusal> {
+        self.as_arena().checked()
+    }
+}
+
+#[cfg(feature = "alloc")]
+impl crate::OwnedArena {
     /// Checks the arena once, for any number of reads: [`Arena::checked`].
     ///
     /// # Errors
@@ -212,7 +225,7 @@ impl<'a> Checked<'a> {
         Chains { checked: *self, open: self.links(), closed: self.links(), visited: [0; WORDS] }
     }
 
-    /// All links in the order of their slots.
+    /// All links in the order of their slots. To visit all of them takes time in proportion to the stack.
     pub fn links(&self) -> Links<'a> {
         Links { checked: *self, below: 0, left: self.header.link_count }
     }

@@ -11,7 +11,7 @@ impl<'a> Arena<'a> {
     /// 1 to 11: the first rule that fails.
     pub fn check(&self) -> Result<(), Refusal> {
         let answer = call!(chain_arena_check(self, as_ptr));
-        Done::of(answer.number, answer.broken).map(|_| ())
+        Done::plain(answer.number, answer.broken)
     }
 
     /// The link at `p`, its neighbours with their generations.
@@ -21,7 +21,7 @@ impl<'a> Arena<'a> {
     /// 1 to 11 as [`check`](Self::check), then 12 if `p` is stale.
     pub fn get_link(&self, p: Ptr) -> Result<Link, Refusal> {
         let answer = call!(chain_arena_get_link(self, as_ptr, p.slot, p.generation));
-        Done::of(answer.number, answer.broken).map(|_| answer.into())
+        Done::plain(answer.number, answer.broken).map(|()| answer.into())
     }
 
     /// The link at `p`, its neighbours by their slots.
@@ -31,7 +31,7 @@ impl<'a> Arena<'a> {
     /// 1 to 11 as [`check`](Self::check), then 12 if `p` is stale.
     pub fn get_link_no_gen(&self, p: Ptr) -> Result<LinkNoGen, Refusal> {
         let answer = call!(chain_arena_get_link_no_gen(self, as_ptr, p.slot, p.generation));
-        Done::of(answer.number, answer.broken).map(|_| answer.into())
+        Done::plain(answer.number, answer.broken).map(|()| answer.into())
     }
 
     /// Whether the next of `p_prev` is `p_next`; false if one of them is stale.
@@ -48,7 +48,7 @@ impl<'a> Arena<'a> {
             p_next.slot,
             p_next.generation
         ));
-        Done::of(answer.number, answer.broken).map(|_| answer.yes != 0)
+        Done::plain(answer.number, answer.broken).map(|()| answer.yes != 0)
     }
 
     /// The state of a walk that begins at `p`, to be stepped also while the arena changes.
@@ -58,7 +58,7 @@ impl<'a> Arena<'a> {
     /// 1 to 11 as [`check`](Self::check), then 12 if `p` is stale.
     pub fn walk_start(&self, p: Ptr) -> Result<Walk, Refusal> {
         let answer = call!(chain_arena_walk_start(self, as_ptr, p.slot, p.generation));
-        Done::of(answer.number, answer.broken)?;
+        Done::plain(answer.number, answer.broken)?;
         Ok(Walk {
             start: answer.start,
             position: answer.position,

@@ -43,7 +43,7 @@ impl ArenaMut<'_> {
     ///
     /// # Errors
     ///
-    /// 1 to 11 as [`Arena::check`](crate::Arena::check), then 14 if the report is too short.
+    /// 1 to 11 as `Arena::check`, then 14 if the report is too short.
     pub fn compress_with<'r>(
         &mut self,
         generation: NewGeneration,
@@ -67,7 +67,7 @@ impl ArenaMut<'_> {
     ///
     /// # Errors
     ///
-    /// 1 to 11 as [`Arena::check`](crate::Arena::check), then 14 if the where-from column has not the columns' length.
+    /// 1 to 11 as `Arena::check`, then 14 if the where-from column has not the columns' length.
     pub fn compress_canonical<'w>(
         &mut self,
         generation: NewGeneration,
@@ -126,11 +126,16 @@ pub struct Moved<From> {
     pub to: Ptr,
 }
 
+impl Moved<Ptr> {
+    /// How many words of a report a link takes.
+    pub const WORDS: usize = 4;
+}
+
 /// What an order-preserving compression did.
 #[derive(Clone, Copy, Debug, PartialEq, Eq)]
 pub struct CompressedWith<'r> {
-    /// Four words for each link, in slot order: its slot and generation before, its slot and generation afterwards
-    pub report: &'r [[u32; 4]],
+    /// The words of each link, in slot order: its slot and generation before, its slot and generation afterwards
+    pub report: &'r [[u32; Moved::<Ptr>::WORDS]],
     /// The current generation, which every link has now
     pub generation: u32,
     /// Whether the current generation overflowed

@@ -2,7 +2,7 @@
 
 use crate::ffi::PlainResult;
 use crate::link::answered_slot;
-use crate::{Answer, ArenaMut, Done, LinkNoGen, Ptr, Refusal, Run, Slot};
+use crate::{Answers, ArenaMut, Done, LinkNoGen, Ptr, Refusal, Run, Slot};
 
 /// The calls of Level Two. Each begins with the check and gives its refusal, 1 to 11; a refused call has written nothing.
 ///
@@ -35,7 +35,7 @@ impl ArenaMut<'_> {
     ///
     /// # Errors
     ///
-    /// 1 to 11 as [`Arena::check`](crate::Arena::check), then in this order: 12 if `p_prev` is stale, 13 if it has a next, 12 if
+    /// 1 to 11 as `Arena::check`, then in this order: 12 if `p_prev` is stale, 13 if it has a next, 12 if
     /// `p_next` is stale, 13 if it has a prev.
     pub fn connect(&mut self, p_prev: Ptr, p_next: Ptr) -> Result<(), Refusal> {
         plain(call!(chain_arena_connect(
@@ -52,7 +52,7 @@ impl ArenaMut<'_> {
     ///
     /// # Errors
     ///
-    /// 1 to 11 as [`Arena::check`](crate::Arena::check), then 12 if `p` is stale, then 13 if it has no prev.
+    /// 1 to 11 as `Arena::check`, then 12 if `p` is stale, then 13 if it has no prev.
     pub fn break_prev(&mut self, p: Ptr) -> Result<(), Refusal> {
         plain(call!(chain_arena_break_prev(self, as_mut_ptr, p.slot, p.generation)))
     }
@@ -61,7 +61,7 @@ impl ArenaMut<'_> {
     ///
     /// # Errors
     ///
-    /// 1 to 11 as [`Arena::check`](crate::Arena::check), then 12 if `p` is stale, then 13 if it has no next.
+    /// 1 to 11 as `Arena::check`, then 12 if `p` is stale, then 13 if it has no next.
     pub fn break_next(&mut self, p: Ptr) -> Result<(), Refusal> {
         plain(call!(chain_arena_break_next(self, as_mut_ptr, p.slot, p.generation)))
     }
@@ -70,7 +70,7 @@ impl ArenaMut<'_> {
     ///
     /// # Errors
     ///
-    /// 1 to 11 as [`Arena::check`](crate::Arena::check), then 12 if one of the pointers is stale, then 13 if one of the links has
+    /// 1 to 11 as `Arena::check`, then 12 if one of the pointers is stale, then 13 if one of the links has
     /// no next.
     pub fn exchange_next(&mut self, p0: Ptr, p1: Ptr) -> Result<(), Refusal> {
         plain(call!(chain_arena_exchange_next(
@@ -87,7 +87,7 @@ impl ArenaMut<'_> {
     ///
     /// # Errors
     ///
-    /// 1 to 11 as [`Arena::check`](crate::Arena::check), then 12 if `p` is stale.
+    /// 1 to 11 as `Arena::check`, then 12 if `p` is stale.
     pub fn remove(&mut self, p: Ptr) -> Result<Removed, Refusal> {
         let answer = call!(chain_arena_remove(self, as_mut_ptr, p.slot, p.generation));
         let done = Done::of(answer.number, answer.broken)?;
@@ -98,7 +98,7 @@ impl ArenaMut<'_> {
     ///
     /// # Errors
     ///
-    /// 1 to 11 as [`Arena::check`](crate::Arena::check), then 12 if `p` is stale, then 14 if the report is too short.
+    /// 1 to 11 as `Arena::check`, then 12 if `p` is stale, then 14 if the report is too short.
     pub fn drain<'r>(&mut self, p: Ptr, report: &'r mut [u32]) -> Result<Drained<'r>, Refusal> {
         let answer = call!(chain_arena_drain(
             self,
@@ -108,8 +108,8 @@ impl ArenaMut<'_> {
             report.as_mut_ptr(),
             report.len()
         ));
-        Done::of(answer.number, answer.broken)?;
-        let items: &[[u32; 5]] = report.as_chunks().0;
+        Done::plain(answer.number, answer.broken)?;
+        let items: &[[u32; DrainedLink::WORDS]] = report.as_chunks().0;
         let report = items.get(..answer.items as usize).unwrap_or(items);
         let overflowed_at = (answer.overflowed as usize).checked_sub(1);
         Ok(Drained { report, overflowed: overflowed_at.is_some(), overflowed_at })
@@ -119,7 +119,7 @@ impl ArenaMut<'_> {
     ///
     /// # Errors
     ///
-    /// 1 to 11 as [`Arena::check`](crate::Arena::check), then 15 if the generation is 0 or 1.
+    /// 1 to 11 as `Arena::check`, then 15 if the generation is 0 or 1.
     pub fn set_generation(&mut self, generation: u32) -> Result<(), Refusal> {
         plain(call!(chain_arena_set_generation(self, as_mut_ptr, generation)))
     }
@@ -128,7 +128,7 @@ impl ArenaMut<'_> {
     ///
     /// # Errors
     ///
-    /// 1 to 11 as [`Arena::check`](crate::Arena::check).
+    /// 1 to 11 as `Arena::check`.
     pub fn inc_generation(&mut self) -> Result<Done, Refusal> {
         let answer = call!(chain_arena_inc_generation(self, as_mut_ptr));
         Done::of(answer.number, answer.broken)
@@ -138,7 +138,7 @@ impl ArenaMut<'_> {
     ///
     /// # Errors
     ///
-    /// 1 to 11 as [`Arena::check`](crate::Arena::check).
+    /// 1 to 11 as `Arena::check`.
     pub fn canonicalize_freelist(&mut self) -> Result<(), Refusal> {
         plain(call!(chain_arena_canonicalize_freelist(self, as_mut_ptr)))
     }
@@ -148,15 +148,11 @@ impl ArenaMut<'_> {
     ///
     /// # Errors
     ///
-    /// 1 to 11 as [`Arena::check`](crate::Arena::check). What is refused of a command is in its answer: 12 or 13.
-    pub fn run<'r>(
-        &mut self,
-        run: &'r mut Run<'_>,
-    ) -> Result<impl ExactSizeIterator<Item = Answer> + use<'r>, Refusal> {
+    /// 1 to 11 as `Arena::check`. What is refused of a command is in its answer: 12 or 13.
+    pub fn run<'r>(&mut self, run: &'r mut Run<'_>) -> Result<Answers<'r>, Refusal> {
         let (commands, answers) = run.lent();
         self.run_words(commands.as_flattened(), answers)?;
-        let answers: &'r [u32] = answers;
-        Ok(commands.iter().zip(answers).map(Answer::of))
+        Ok(Answers::new(commands, answers))
     }
 
     /// Applies commands that are words already: five for each, as [`Command::words`](crate::Command::words) makes them. Each
@@ -164,7 +160,7 @@ impl ArenaMut<'_> {
     ///
     /// # Errors
     ///
-    /// 1 to 11 as [`Arena::check`](crate::Arena::check), then 16 if the number of words is not divisible by five, then 14 if there
+    /// 1 to 11 as `Arena::check`, then 16 if the number of words is not divisible by five, then 14 if there
     /// are fewer answer words than commands. What is refused of a command is in its answer word: 12, 13, or 16 for an unknown
     /// code.
     pub fn run_words(&mut self, commands: &[u32], answers: &mut [u32]) -> Result<(), Refusal> {
@@ -181,7 +177,7 @@ impl ArenaMut<'_> {
 
 /// What a call answers that can only be done or refused.
 fn plain(answer: PlainResult) -> Result<(), Refusal> {
-    Done::of(answer.number, answer.broken).map(|_| ())
+    Done::plain(answer.number, answer.broken)
 }
 
 /// A link that was removed.
@@ -196,8 +192,8 @@ pub struct Removed {
 /// A chain that was drained.
 #[derive(Clone, Copy, Debug, PartialEq, Eq)]
 pub struct Drained<'r> {
-    /// Five words for each link, in the walk's order: slot, generation, prev, next, payload
-    pub report: &'r [[u32; 5]],
+    /// The words of each link, in the walk's order: slot, generation, prev, next, payload
+    pub report: &'r [[u32; DrainedLink::WORDS]],
     /// Whether the current generation overflowed
     pub overflowed: bool,
     /// At which of the links it did, by its place in the report
@@ -211,6 +207,11 @@ pub struct DrainedLink {
     pub ptr: Ptr,
     /// The link when its turn came, so that links removed before it are named no more
     pub link: LinkNoGen,
+}
+
+impl DrainedLink {
+    /// How many words of a report a link takes.
+    pub const WORDS: usize = 5;
 }
 
 impl<'r> Drained<'r> {

@@ -31,7 +31,8 @@
 //! # Levels
 //!
 //! The features `level-one`, `level-two` and `level-three`, all on by default, each stand alone. A feature builds its
-//! level's archive with the Rattle toolchain and links it. The calls of a level whose feature is off are not there. The
+//! level's archive with the Rattle toolchain and links it, or the ready one in the folder that the environment variable
+//! `CHAIN_ARENA_ARCHIVES` names. The calls of a level whose feature is off are not there. The
 //! feature `alloc` adds `OwnedArena`, whose columns are vectors.
 //!
 //! The archives hold code for x86-64 Linux; for another target the build stops with a sentence.
@@ -116,7 +117,7 @@ pub use link::{Link, LinkNoGen, Ptr, Slot};
 pub use owned::OwnedArena;
 pub use refusal::{Done, Refusal, RefusalKind};
 #[cfg(feature = "level-two")]
-pub use run::{Answer, Command, Full, Run};
+pub use run::{Answer, Answers, Command, Full, Run};
 #[cfg(feature = "level-one")]
 pub use walk::{Steps, Walk};
 

@@ -14,10 +14,10 @@ use crate::{Arena, ArenaMut, Header, Slot};
 /// let empty = OwnedArena::empty(3);
 /// assert_eq!((empty.prev.len(), empty.capacity()), (3, 3));
 /// # #[cfg(feature = "level-one")]
-/// assert!(empty.as_arena().checked()?.is_empty());
+/// assert!(empty.checked()?.is_empty());
 /// # Ok::<(), chain_arena::Refusal>(())
 /// ```
-#[derive(Clone, Debug, Default, PartialEq, Eq, Hash)]
+#[derive(Clone, Debug, PartialEq, Eq, Hash)]
 pub struct OwnedArena {
     /// Each link's neighbour before it, 0 for none
     pub prev: Vec<Slot>,
@@ -29,6 +29,13 @@ pub struct OwnedArena {
     pub payload: Vec<u32>,
     /// The words of a [`Header`]
     pub header: Vec<u32>,
+}
+
+/// An arena without slots.
+impl Default for OwnedArena {
+    fn default() -> Self {
+        Self::empty(0)
+    }
 }
 
 impl OwnedArena {

@@ -8,6 +8,7 @@ use crate::link::answered_slot;
 
 /// What is told of a call that was done.
 #[derive(Clone, Copy, Debug, PartialEq, Eq)]
+#[must_use = "the current generation may have overflowed"]
 pub struct Done {
     /// Whether the current generation went from 4,294,967,295 to 2, so that pointers kept from before may name other links
     pub overflowed: bool,
@@ -30,6 +31,15 @@ impl Done {
         }
     }
 
+    /// That a call was done which cannot overflow, or its refusal.
+    #[cfg(any(feature = "level-one", feature = "level-two"))]
+    pub(crate) const fn plain(number: u32, broken: u32) -> Result<(), Refusal> {
+        match Self::of(number, broken) {
+            Ok(_) => Ok(()),
+            Err(refusal) => Err(refusal),
+        }
+    }
+
     /// What the answer word of a run's command stands for.
     ///
     /// # Errors
@@ -43,7 +53,7 @@ impl Done {
 /// Makes [`RefusalKind`] from a table of number, name and words.
 macro_rules! kinds {
     ($($number:literal $name:ident $words:literal)*) => {
-        /// Why a call refuses, by name. The numbers are those of the calls; `kind as u32` gives them too.
+        /// Why a call refuses, by name. `kind as u32` is the number of a known kind.
         ///
         /// A later version may have more of them, so that a `match` needs an arm for the rest:
         ///

@@ -2,6 +2,8 @@
 
 use core::error::Error;
 use core::fmt;
+use core::iter::{FusedIterator, Zip};
+use core::slice;
 
 use crate::{Done, Ptr, Refusal, Slot};
 
@@ -184,12 +186,38 @@ pub struct Answer {
     pub result: Result<Done, Refusal>,
 }
 
-impl Answer {
-    /// The answer of a command's words and its answer word.
-    pub(crate) fn of((words, answer): (&[u32; Command::WORDS], &u32)) -> Self {
-        Self { command: Command::of(*words), result: Done::answer(*answer) }
+/// What became of each command of a run that was applied, in their order:
+/// [`ArenaMut::run`](crate::ArenaMut::run).
+#[derive(Clone, Debug)]
+#[must_use = "the commands were applied, but some may have been refused"]
+pub struct Answers<'r> {
+    pairs: Zip<slice::Iter<'r, [u32; Command::WORDS]>, slice::Iter<'r, u32>>,
+}
+
+impl<'r> Answers<'r> {
+    /// The answers of commands and their answer words.
+    pub(crate) fn new(commands: &'r [[u32; Command::WORDS]], answers: &'r [u32]) -> Self {
+        Self { pairs: commands.iter().zip(answers) }
     }
 }
+
+impl Iterator for Answers<'_> {
+    type Item = Answer;
+
+    fn next(&mut self) -> Option<Answer> {
+        let (words, answer) = self.pairs.next()?;
+        Some(Answer { command: Command::of(*words), result: Done::answer(*answer) })
+    }
+
+    fn size_hint(&self) -> (usize, Option<usize>) {
+        self.pairs.size_hint()
+    }
+}
+
+impl ExactSizeIterator for Answers<'_> {}
+
+// Iterators over slices are fused.
+impl FusedIterator for Answers<'_> {}
 
 /// There is no room for another command.
 #[derive(Clone, Copy, PartialEq, Eq)]

@@ -52,7 +52,7 @@ impl Walk {
             direction: answer.direction,
             left: answer.left,
         };
-        Done::of(answer.number, answer.broken)?;
+        Done::plain(answer.number, answer.broken)?;
         Ok(Ptr::answered(answer.slot, answer.generation))
     }
 }

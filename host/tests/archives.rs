@@ -1,9 +1,10 @@
 //! The script `archives`: which archives it makes again, and which it leaves. A stand-in for the toolchain writes down what it is asked for.
 
 use std::fs;
+use std::io::Read;
 use std::os::unix::fs::PermissionsExt;
 use std::path::{Path, PathBuf};
-use std::process::{Command, Output};
+use std::process::{Command, Output, Stdio};
 
 /// A stand-in for `rt`: it proves everything, and compiles a crate to an archive that holds one file with the crate's text.
 const RT: &str = r#"#!/usr/bin/env bash
@@ -13,6 +14,7 @@ case $1 in
   staticlib)
     echo "staticlib $2" >> "$ASKED"
     ! grep -q wrong "crates/$2/src/lib.rt" || exit 1
+    ! grep -q restless "crates/$2/src/lib.rt" || echo more >> "crates/$2/src/lib.rt"
     mkdir -p target/staticlib && cp "crates/$2/src/lib.rt" "target/staticlib/$2.text"
     rm -f "target/staticlib/lib$2.a" && (cd target/staticlib && ar rc "lib$2.a" "$2.text") ;;
 esac
@@ -116,9 +118,47 @@ fn what_has_changed_is_made_again() {
     assert_eq!(stage.texts("out/liblevel_two.a"), ["another", "level_two_a"]);
     stage.write("repository/crates/below/src/lib.rt", "another\n");
     assert_eq!(stage.compiled(&["out"]), ["level_one_a", "level_two_a", "level_two_b"]);
+    for part in ["specs", "proofs"] {
+        stage.write(&format!("repository/crates/below/{part}/Text.antt"), "another\n");
+        assert_eq!(stage.compiled(&["out"]), ["level_one_a", "level_two_a", "level_two_b"], "{part}");
+    }
     stage.write("out/liblevel_three.a", "damaged");
     assert!(stage.compiled(&["out"]).is_empty());
     assert_eq!(stage.texts("out/liblevel_three.a"), ["level_three_a"]);
+}
+
+#[test]
+fn with_another_toolchain_all_is_made_again() {
+    let stage = Stage::new("toolchain");
+    stage.compiled(&["out"]);
+    stage.write("tools/rt", &RT.replace("stand-in", "another"));
+    assert_eq!(stage.compiled(&["out"]), EVERY);
+}
+
+#[test]
+fn a_file_that_changes_while_it_is_compiled_is_noticed() {
+    let stage = Stage::new("restless");
+    stage.write("repository/crates/level_three_a/src/lib.rt", "restless\n");
+    let output = stage.run(&["out", "level_three"]);
+    assert!(!output.status.success());
+    let said = String::from_utf8_lossy(&output.stderr);
+    let noticed = "a file that level_three_a is made from changed while it was compiled: run it again";
+    assert!(said.contains(noticed), "{said}");
+    assert!(!stage.has("out/liblevel_three.a"));
+}
+
+#[test]
+fn two_runs_wait_for_each_other() {
+    let stage = Stage::new("waits");
+    stage.compiled(&["out"]);
+    let lock = stage.folder.join("repository/target/archives/lock");
+    let mut holder = Command::new("flock");
+    holder.arg(lock).args(["bash", "-c", "echo held; sleep 1"]).stdout(Stdio::piped());
+    let mut holder = holder.spawn().unwrap();
+    holder.stdout.take().unwrap().read_exact(&mut [0; 5]).unwrap();
+    let said = String::from_utf8(stage.run(&["out"]).stderr).unwrap();
+    assert_eq!(said, "archives: waiting for another run in this folder\n");
+    assert!(holder.wait().unwrap().success());
 }
 
 #[test]
@@ -134,7 +174,8 @@ fn how_far_it_is_is_told() {
         ]
     );
     assert_eq!(lines.len(), 4);
-    assert!(lines[3].ends_with(" is proved and compiled, 2 of 2"), "{said}");
+    // Two crates may be done at once, and then be told in either order.
+    assert!(lines[2..].iter().any(|line| line.ends_with(" is proved and compiled, 2 of 2")), "{said}");
 }
 
 #[test]

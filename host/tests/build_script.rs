@@ -24,6 +24,7 @@ struct Stage {
 }
 
 /// What the script says to cargo, and what is seen meanwhile where cargo's messages go.
+#[derive(Debug)]
 struct Said {
     cargo: String,
     seen: String,
@@ -87,8 +88,15 @@ impl Stage {
 
     /// Runs the script: its parent, a shell, stands in the folder `caller`, the script itself in `repository/host`.
     fn run(&self) -> Said {
+        self.run_with_messages_to("")
+    }
+
+    /// The same, where cargo's messages go to a file of the stage, if one is named.
+    fn run_with_messages_to(&self, file: &str) -> Said {
         let mut command = Command::new("bash");
-        command.args(["-c", "env -C ../repository/host \"$0\" 2> /dev/null; exit $?"]).arg(&*BUILD_SCRIPT);
+        let to_file = if file.is_empty() { String::new() } else { format!("exec 2> ../{file}; ") };
+        let script = format!("{to_file}env -C ../repository/host \"$0\" 2> /dev/null; exit $?");
+        command.arg("-c").arg(script).arg(&*BUILD_SCRIPT);
         command.current_dir(self.folder.join("caller")).env_remove("CHAIN_ARENA_ARCHIVES");
         for (name, value) in &self.variables {
             command.env(name, value);
@@ -134,8 +142,12 @@ fn another_target_is_refused_with_a_sentence() {
 fn a_relative_folder_is_meant_from_where_cargo_was_called() {
     let stage = Stage::new("relative").with("CHAIN_ARENA_ARCHIVES", "ready");
     stage.ready("caller/ready", &ALL);
-    assert!(stage.run().errors().is_empty());
+    let said = stage.run();
+    assert!(said.errors().is_empty());
     assert_eq!(stage.linked(), FILES);
+    for variable in ["CHAIN_ARENA_ARCHIVES", "PWD"] {
+        assert!(said.cargo.contains(&format!("cargo::rerun-if-env-changed={variable}\n")), "{variable}");
+    }
     let stage = Stage::new("absolute");
     stage.ready("elsewhere", &ALL);
     let folder = stage.folder.join("elsewhere").display().to_string();
@@ -145,6 +157,32 @@ fn a_relative_folder_is_meant_from_where_cargo_was_called() {
     for level in ALL {
         assert!(said.cargo.contains(&format!("cargo::rustc-link-lib=static={level}\n")));
         assert!(said.cargo.contains(&format!("cargo::rerun-if-changed={folder}/lib{level}.a\n")));
+    }
+    assert!(said.cargo.contains("cargo::rerun-if-env-changed=CHAIN_ARENA_ARCHIVES\n"));
+    assert!(!said.cargo.contains("PWD"), "a folder from the root on is the same from everywhere");
+}
+
+#[test]
+fn ready_archives_are_copied_again_and_those_of_other_levels_go() {
+    let stage = Stage::new("again").with("CHAIN_ARENA_ARCHIVES", "ready");
+    stage.ready("caller/ready", &ALL);
+    for archive in FILES.map(|file| stage.folder.join("caller/ready").join(file)) {
+        let mut permissions = fs::metadata(&archive).unwrap().permissions();
+        permissions.set_readonly(true);
+        fs::set_permissions(&archive, permissions).unwrap();
+    }
+    for _ in 0..2 {
+        assert!(stage.run().errors().is_empty());
+        assert_eq!(stage.linked(), FILES);
+    }
+    let stage = stage.with("CARGO_FEATURE_LEVEL_THREE", "");
+    assert!(stage.run().errors().is_empty());
+    assert_eq!(stage.linked(), ["liblevel_one.a", "liblevel_two.a"]);
+    let own = stage.folder.join("out").display().to_string();
+    let stage = stage.with("CHAIN_ARENA_ARCHIVES", &own);
+    assert!(stage.run().errors().is_empty());
+    for level in ["level_one", "level_two"] {
+        assert_eq!(fs::read_to_string(stage.folder.join(format!("out/lib{level}.a"))).unwrap(), level);
     }
 }
 
@@ -166,6 +204,8 @@ fn what_a_folder_lacks_is_said() {
     assert!(stage.run().errors().is_empty());
     assert_eq!(stage.linked(), ["liblevel_one.a"]);
     let stage = stage.with("CHAIN_ARENA_ARCHIVES", "nowhere");
+    assert!(stage.run().errors()[0].ends_with("/caller/nowhere, and there is no such folder"));
+    fs::create_dir(stage.folder.join("caller/nowhere")).unwrap();
     assert!(stage.run().errors()[0].ends_with(
         "/caller/nowhere, which CHAIN_ARENA_ARCHIVES names, lacks liblevel_one.a; it has no archive"
     ));
@@ -193,6 +233,27 @@ fn progress_is_told_at_once_and_levels_are_named() {
     );
     assert!(said.errors().is_empty() && !said.cargo.contains("cargo::warning"));
     assert!(!said.cargo.contains("level_two"));
+    for read in ["archives", "crates", "crates.txt"] {
+        assert!(said.cargo.contains(&format!("cargo::rerun-if-changed=../{read}\n")), "{read}");
+    }
+    let stage = stage.with("CHAIN_ARENA_ARCHIVES", " ");
+    assert!(stage.run().errors()[0].ends_with("there is no such folder"));
+    let stage = Stage {
+        variables: [stage.variables, vec![("CHAIN_ARENA_ARCHIVES", String::new())]].concat(),
+        ..stage
+    };
+    assert_eq!(stage.run().seen, said.seen, "an empty variable names no folder");
+}
+
+#[test]
+fn where_nobody_is_told_meanwhile_a_warning_tells_afterwards() {
+    let stage = Stage::new("untold");
+    stage.write("repository/archives", "echo 'archives: first is proved, 1 of 2' >&2\n");
+    let said = stage.run_with_messages_to("log");
+    assert!(said.cargo.contains("cargo::warning=the archives were proved and compiled in 0 s\n"));
+    assert_eq!(fs::read_to_string(stage.folder.join("log")).unwrap(), "");
+    stage.write("repository/archives", "echo 'bash: warning: setlocale' >&2\n");
+    assert!(!stage.run_with_messages_to("log").cargo.contains("cargo::warning"));
 }
 
 #[test]

@@ -139,6 +139,62 @@ fn the_codes_and_word_counts_are_those_of_the_wrapper() {
     assert!(constants.into_iter().eq(codes));
     assert_eq!(words, [(Command::WORDS as u32, "WORDS".to_string())]);
     assert_eq!(self::constants("CHAIN_ARENA_HEADER_"), [(Header::WORDS as u32, "WORDS".to_string())]);
+    let drained = chain_arena::DrainedLink::WORDS as u32;
+    assert_eq!(self::constants("CHAIN_ARENA_DRAIN_"), [(drained, "WORDS".to_string())]);
+}
+
+#[cfg(feature = "level-three")]
+#[test]
+fn the_words_of_a_moved_link_are_those_of_the_wrapper() {
+    let moved = chain_arena::Moved::<chain_arena::Ptr>::WORDS as u32;
+    assert_eq!(constants("CHAIN_ARENA_COMPRESS_"), [(moved, "WORDS".to_string())]);
+}
+
+/// The numbers from 12 to 16 in the comment that stands above a declaration.
+fn above(source: &str, declaration: &str) -> BTreeSet<u32> {
+    let start = source.find(declaration).unwrap_or_else(|| panic!("{declaration} is not there"));
+    let comment = |line: &&str| ["/*", " *", "    ///"].iter().any(|sign| line.starts_with(sign));
+    let text: String = source[..start].trim_end().lines().rev().take_while(comment).collect();
+    text.split(|c: char| !c.is_ascii_digit())
+        .filter_map(|word| word.parse().ok())
+        .filter(|n| (12..=16).contains(n))
+        .collect()
+}
+
+#[test]
+fn each_declaration_tells_the_numbers_of_its_call() {
+    let (ffi, header) = (read("host/src/ffi.rs"), read("include/chain_arena.h"));
+    for (call, order) in ORDER {
+        let numbers: BTreeSet<u32> = order.iter().copied().collect();
+        assert_eq!(above(&ffi, &format!("    pub fn chain_arena_{call}(")), numbers, "{call} in ffi.rs");
+        let line = header.lines().find(|line| line.ends_with(&format!(" chain_arena_{call}("))).unwrap();
+        assert_eq!(above(&header, line), numbers, "{call} in the C header");
+    }
+}
+
+#[test]
+fn the_sections_that_the_header_names_are_there() {
+    let (header, manual) = (read("include/chain_arena.h"), read("docs/REFERENCE.md"));
+    let comments = header.split("/*").skip(1).filter_map(|rest| rest.split("*/").next());
+    let named =
+        comments.flat_map(|comment| comment.split('(').skip(1)).filter_map(|rest| rest.split_once(')'));
+    let sections: Vec<&str> = named
+        .filter(|(name, after)| {
+            name.starts_with(char::is_uppercase)
+                && after
+                    .trim_start_matches('.')
+                    .trim_start()
+                    .lines()
+                    .next()
+                    .is_none_or(|line| line.is_empty() || line.starts_with(['*', ':', ' ', 'A']))
+        })
+        .map(|(name, _)| name)
+        .collect();
+    assert!(sections.len() > 15, "{sections:?}");
+    for section in sections {
+        let heading = |line: &str| line.trim_start_matches('#').trim() == section && line.starts_with("##");
+        assert!(manual.lines().any(heading), "REFERENCE has no section {section}");
+    }
 }
 
 /// The numbers that are told under `# Errors` of a method, in their order, behind those of the check, which are told if `checks`.
@@ -217,6 +273,8 @@ fn each_method_that_is_no_call_tells_its_numbers() {
     assert_eq!(documented(&one, "walk(", true), [12]);
     assert_eq!(documented(&one, "walk_from(", true), []);
     assert_eq!(documented(&two, "run<", true), []);
+    assert!(two.contains("What is refused of a command is in its answer: 12 or 13."));
+    assert!(two.contains("is in its answer word: 12, 13, or 16 for an unknown"));
     assert_eq!(documented(&view, "checked(&self) -> Result<Checked<'a>", true), []);
     assert_eq!(documented(&view, "checked(&self) -> Result<Checked<'_>", true), []);
     for method in ["link(", "link_no_gen(", "payload(", "prev(", "next(", "chain(", "chain_from_first("] {

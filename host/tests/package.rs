@@ -46,4 +46,14 @@ fn the_package_says_what_it_is() {
     ] {
         assert!(!value.is_empty(), "Cargo.toml has no {name}");
     }
+    let read =
+        |name: &str| std::fs::read_to_string(Path::new(env!("CARGO_MANIFEST_DIR")).join(name)).unwrap();
+    let manifest = read("Cargo.toml");
+    for list in ["keywords", "categories"] {
+        assert!(manifest.contains(&format!("\n{list} = [\"")), "Cargo.toml has no {list}");
+    }
+    let version = env!("CARGO_PKG_RUST_VERSION");
+    assert!(read("README.md").contains(&format!("Rust from {version} on")));
+    assert!(read("../checker/Cargo.toml").contains(&format!("rust-version = \"{version}\"")));
+    assert!(read("src/lib.rs").contains("\n#![no_std]\n"));
 }

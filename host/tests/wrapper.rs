@@ -41,6 +41,25 @@ fn walked(arena: &OwnedArena, slot: u16) -> Vec<u16> {
 }
 
 #[test]
+fn an_owned_arena_begins_empty() {
+    let empty = OwnedArena::empty(3);
+    assert_eq!((empty.prev.as_slice(), empty.next.as_slice()), (&[0; 3][..], &[0; 3][..]));
+    assert_eq!((empty.generation.as_slice(), empty.payload.as_slice()), (&[0; 3][..], &[0; 3][..]));
+    assert_eq!(empty.header, [0, 0, 0, 2]);
+    assert_eq!(OwnedArena::default(), OwnedArena::empty(0));
+    for longest in 0..4 {
+        let mut uneven = OwnedArena::empty(2);
+        [&mut uneven.prev, &mut uneven.next].into_iter().enumerate().for_each(|(k, column)| {
+            column.resize(if k == longest { 7 } else { 2 }, 0);
+        });
+        [&mut uneven.generation, &mut uneven.payload].into_iter().enumerate().for_each(|(k, column)| {
+            column.resize(if k + 2 == longest { 7 } else { 2 }, 0);
+        });
+        assert_eq!(uneven.capacity(), 7);
+    }
+}
+
+#[test]
 fn every_number_has_its_name_and_words() {
     let mut seen = Vec::new();
     for (number, &kind) in (1..).zip(RefusalKind::ALL) {
@@ -320,6 +339,7 @@ mod level_two {
         run.break_next(p(1)).unwrap().connect(p(5), p(1)).unwrap().connect(p(5), p(1)).unwrap();
         run.break_prev(STALE).unwrap().exchange_next(p(5), p(2)).unwrap().remove(p(4)).unwrap();
         assert_eq!((run.push(commands[0]).unwrap_err(), run.len()), (Full, 6));
+        assert_eq!(format!("{Full:?}"), "there is no room for another command of the run");
         let found: Vec<Answer> = columns.as_arena_mut().run(&mut run).unwrap().collect();
         let numbers = [0, 0, 13, 12, 0, 0];
         let expected = commands
@@ -379,6 +399,11 @@ mod level_three {
     use chain_arena::{CompressedCanonical, Moved, NewGeneration};
 
     use super::*;
+
+    #[test]
+    fn the_generation_is_raised_unless_it_is_to_be_reset() {
+        assert_eq!(NewGeneration::default(), NewGeneration::Next);
+    }
 
     #[test]
     fn links_move_down_in_order() {
