@@ -17,8 +17,8 @@
  * Every result begins with two words (Replies):
  *   number   0: done; 100: done, and the generation overflowed; any other: refused, and why
  *   broken   with number 11 a link at which rule 11 fails, else 0
- * Every call begins with the check and gives its refusal, 1 to 11. A refused call has written nothing, and the further
- * words of its result are 0; only a step answers its state, as it got it.
+ * Every call begins with the check, which goes over the whole stack, and gives its refusal, 1 to 11. A refused call has
+ * written nothing, and the further words of its result are 0; only a step answers its state, as it got it.
  *
  * The numbers (Numbers). A constant CHAIN_ARENA_REFUSED_.. stands below for each refusal, CHAIN_ARENA_DONE for 0 and
  * CHAIN_ARENA_OVERFLOWED for 100.

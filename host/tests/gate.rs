@@ -84,11 +84,11 @@ impl Stage {
 /// The steps in their order, each with whether it links the archives that the gate made.
 fn all_steps() -> Vec<(String, bool)> {
     let alone = |levels: &str| {
-        let words = format!(
-            "cargo test -p chain_arena --profile quick --no-default-features --features {levels} --offline --quiet"
+        let options = format!(
+            "-p chain_arena --profile quick --no-default-features --features {levels} --offline --quiet"
         );
-        ["--test wrapper --test exports --test header --test numbers", "--doc"]
-            .map(|tests| format!("{words} {tests}"))
+        let tests = "test --test wrapper --test exports --test header --test numbers";
+        [tests, "test --doc", "doc --no-deps"].map(|what| format!("cargo {what} {options}"))
     };
     let proving =
         ["rt fmt --check", "rt ci", "archives build/archives"].map(|words| (words.to_string(), false));
