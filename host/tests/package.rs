@@ -55,5 +55,7 @@ fn the_package_says_what_it_is() {
     let version = env!("CARGO_PKG_RUST_VERSION");
     assert!(read("README.md").contains(&format!("Rust from {version} on")));
     assert!(read("../checker/Cargo.toml").contains(&format!("rust-version = \"{version}\"")));
-    assert!(read("src/lib.rs").contains("\n#![no_std]\n"));
+    let library = read("src/lib.rs");
+    assert!(library.contains("\n#![no_std]\n"));
+    assert!(!library.contains("mod levels"), "the list of levels is for the build and the tests");
 }
