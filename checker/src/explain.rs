@@ -6,6 +6,7 @@ use chain_arena::{Header, OwnedArena, Refusal};
 
 use crate::by_slot::BySlot;
 use crate::panel::Fault;
+use crate::wording::counted;
 
 /// Why a rule fails.
 #[derive(Debug, PartialEq, Eq)]
@@ -53,7 +54,7 @@ impl Why {
     /// How many faults there are.
     fn count(&self) -> String {
         let slots = self.faults.chunk_by(|one, other| one.slot == other.slot).count();
-        format!("{} faults at {slots} {}", self.faults.len(), if slots == 1 { "slot" } else { "slots" })
+        format!("{} faults at {}", self.faults.len(), counted(slots, "slot"))
     }
 }
 
@@ -101,7 +102,7 @@ fn over_capacity(a: &OwnedArena) -> String {
     } else {
         ("stack length", header.stack_length)
     };
-    format!("the {name} is {count}, but the columns have only {capacity} slots")
+    format!("the {name} is {count}, but the columns have only {}", counted(capacity, "slot"))
 }
 
 /// Rule 5: a root exactly if a slot is free.

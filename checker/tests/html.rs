@@ -1,5 +1,8 @@
 //! The page that `--html` writes: what stands in it, and what a browser makes of it. Where there is no Chromium, the tests
 //! that need it say so and are skipped.
+//!
+//! The modules that make the page are included by their paths, since a program's modules cannot be used from here. So a page
+//! can be made of any panels, and several arenas share one start of the browser.
 
 #[allow(dead_code)]
 #[path = "../src/by_slot.rs"]
@@ -12,6 +15,8 @@ mod panel;
 #[allow(dead_code)]
 #[path = "../src/picture.rs"]
 mod picture;
+#[path = "../src/wording.rs"]
+mod wording;
 
 use std::env;
 use std::fs::{self, File};
@@ -191,10 +196,12 @@ fn a_large_arena_makes_a_small_page_quickly() {
 
 #[test]
 fn what_must_be_told_of_an_arena_that_passes_is_no_refusal() {
-    let sentence = Some("the generation overflowed".to_string());
-    let page = html::page(&[Panel { sentence, ..panel("told", one_chain(2)) }]);
+    let told = vec!["the generation overflowed".to_string(), "and more".to_string()];
+    let page = html::page(&[Panel { told, ..panel("told", one_chain(2)) }]);
     assert!(page.contains("<p class=\"verdict passes\">passes the check</p>\n"));
-    assert!(page.contains("<p class=\"verdict told\">the generation overflowed</p>"));
+    assert!(page.contains(
+        "<p class=\"verdict told\">the generation overflowed</p>\n<p class=\"verdict told\">and more</p>"
+    ));
     assert!(!page.contains("verdict refused"));
 }
 
@@ -301,7 +308,7 @@ fn compared_arenas_are_followed_by_slot() {
     let [mut a, b] = [compared("A", vec![3, 2, 1]), compared("B", vec![2, 1, 3])];
     a.around = Some(2);
     let page = html::page(&[a, b]);
-    assert_eq!(page.matches("<h3>Differences: 1</h3>").count(), 2);
+    assert_eq!(page.matches("<h3>Slots without a partner: 1</h3>").count(), 2);
     let steps = "
 note(chosen());
 box(2, 3).click(); note(chosen()); note(box(1, 1).querySelector('.tie').textContent);
@@ -381,7 +388,8 @@ fn wrong_pointers_and_free_slots_are_shown() {
     arena.header = vec![9, 6, 8, 5];
     let compared = panel("compared", one_chain(7));
     let mut broken = panel("a</script><b>\u{2028}", arena);
-    broken.sentence = Some("refused".to_string());
+    broken.passes = false;
+    broken.verdict = "refused".to_string();
     broken.faults = [6, 7].map(|slot| Fault { slot, sentence: format!("slot {slot} is wrong") }).to_vec();
     let steps = "
 note(document.querySelector('h2').textContent);

@@ -651,7 +651,7 @@ fn drawn_asked(picture: &str) -> Vec<&str> {
 fn the_header_and_other_generations_are_drawn() {
     let (_, picture) = on_text("check", "header.txt", &fs::read(arenas().join("whole.txt")).unwrap(), &[]);
     let cells: Vec<&str> = picture.split("<g class=\"cell\">").skip(1).collect();
-    let names = ["stack length", "link count", "root", "current generation", "capacity"];
+    let names = ["Stack length", "Link count", "Root", "Current generation", "Capacity"];
     for (cell, (name, word)) in cells.iter().zip(names.into_iter().zip(["9", "7", "8", "5", "10"])) {
         assert!(
             cell.contains(&format!(">{name}</text>")) && cell.contains(&format!(">{word}</text>")),
@@ -666,7 +666,7 @@ fn the_header_and_other_generations_are_drawn() {
     assert_eq!((picture.matches("<g class=\"cell\">").count(), picture.matches(">missing<").count()), (5, 1));
     let (_, picture) = on_text("check", "long.txt", format!("header{}", " 7".repeat(900)).as_bytes(), &[]);
     assert_eq!(picture.matches("<g class=\"cell\">").count(), 9);
-    assert!(picture.contains(">word 7</text>") && picture.contains(">893</text>"));
+    assert!(picture.contains(">Word 7</text>") && picture.contains(">893</text>"));
 }
 
 #[test]
@@ -695,7 +695,7 @@ fn a_long_chain_is_drawn_around_a_slot() {
             assert_eq!(drawn_asked(&picture), [slot]);
             let drawn = picture.matches("<g class=\"slot").count();
             assert!((105..=110).contains(&drawn));
-            let note = format!("The picture is cut: {drawn} of 65535 slots of the chain are drawn.");
+            let note = format!("The picture is cut: {drawn} of 65535 slots are drawn.");
             assert!(picture.contains(&note));
         }
     }
@@ -707,8 +707,9 @@ fn the_chain_of_a_slot_is_drawn_before_and_after() {
     let text = fs::read(arenas().join("whole.txt")).unwrap();
     let (_, picture) = on_text("compress", "moved.txt", &text, &["--around", "2"]);
     assert_eq!((picture.matches("<g class=\"slot").count(), drawn_asked(&picture)), (4, vec!["2", "5"]));
+    // Slot 6 is free and gone afterwards, so that the other panel shows all.
     let (_, picture) = on_text("compress", "gone.txt", &text, &["--around", "6"]);
-    assert_eq!((picture.matches("<g class=\"slot").count(), drawn_asked(&picture)), (2, vec!["6"]));
+    assert_eq!((picture.matches("<g class=\"slot").count(), drawn_asked(&picture)), (2 + 7, vec!["6"]));
     let (ran, _) = on_text("compress", "away.txt", &text, &["--around", "10"]);
     assert_eq!((ran.stdout.as_str(), ran.status), ("", 2));
 }

@@ -233,7 +233,8 @@ class View {
   makeFaultLines() {
     const { fault: height, faultMargin, letter } = this.size;
     // Some letters are wider than others, so some room is left.
-    const letters = Math.max(8, Math.floor((this.width - faultMargin) / letter * 0.98));
+    const width = printing ? this.width : this.faults.space.clientWidth;
+    const letters = Math.max(8, Math.floor((width - faultMargin) / letter * 0.98));
     return this.arena.faults.map((fault) => ({ fault, height: height * linesOf(fault.sentence, letters) }));
   }
 
