@@ -204,7 +204,8 @@ fn at(side: &Side<'_>, chain: &Chain<'_>, (from, links): (usize, usize), slot: &
 /// The first slot at which the words of two compressed arenas differ, and how.
 fn first_difference(a: &OwnedArena, b: &OwnedArena) -> Option<String> {
     const NAMES: [&str; 3] = ["prev", "next", "payload"];
-    let words = |arena: &OwnedArena, slot| [arena.prev(slot), arena.next(slot), arena.payload(slot)];
+    let words =
+        |arena: &OwnedArena, slot| [arena.prev(slot), arena.next(slot), arena.payload(slot).unwrap_or(0)];
     let links = [a, b].map(|arena| *arena.stack().end());
     for slot in 1..=links[0].max(links[1]) {
         match links.map(|last| slot <= last) {
@@ -389,6 +390,8 @@ mod tests {
         assert!(twice.contains("\n  A holds the first of these more often than B\n"), "{twice}");
         let more = said(&[open(&[1])], &[open(&[1]), closed(&[2])]);
         assert!(more.contains("none is only in A, 1 chain is only in B"), "{more}");
+        let nothing = said(&[], &[open(&[1])]);
+        assert!(nothing.ends_with(" first differ at slot 1: no link in A, a link in B\n"), "{nothing}");
     }
 
     #[test]

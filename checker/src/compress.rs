@@ -123,7 +123,7 @@ fn header(arena: &OwnedArena) -> String {
 /// The words of a slot that are read: of a free slot only its next, above the stack none.
 fn words(a: &OwnedArena, slot: u32) -> String {
     if a.is_link(slot) {
-        cells([a.prev(slot), a.next(slot), a.generation(slot), a.payload(slot)])
+        cells([a.prev(slot), a.next(slot), a.generation(slot), a.payload(slot).unwrap_or(0)])
     } else if a.is_free(slot) {
         cells(["-", &a.next(slot).to_string(), "free", "-"])
     } else {

@@ -354,11 +354,8 @@ impl Drawing {
         self.body +=
             &format!("<rect x=\"{x}\" y=\"{y}\" width=\"{BOX_WIDTH}\" height=\"{height}\" rx=\"4\"/>");
         self.label("number", centre, y + 17, &slot.to_string());
-        let payload = match panel.arena.payload.get(slot as usize - 1) {
-            _ if free => "free".to_string(),
-            Some(payload) => payload.to_string(),
-            None => "missing".to_string(),
-        };
+        let payload = panel.arena.payload(slot).map_or("missing".to_string(), |payload| payload.to_string());
+        let payload = if free { "free".to_string() } else { payload };
         self.label("note", centre, y + 33, &payload);
         if has_other_generation(panel, slot) {
             self.label("note", centre, y + 48, &format!("g {}", panel.arena.generation(slot)));
