@@ -71,8 +71,9 @@ impl<'a> Side<'a> {
         text
     }
 
-    /// The compressed arena to draw, with the chains that have no partner in the other one.
-    fn panel(&self, chains: &[Chain<'_>], other: &str) -> Panel {
+    /// The compressed arena to draw, with the chains that have no partner in the other one. `same` is how the two hold the
+    /// same, if they do.
+    fn panel(&self, chains: &[Chain<'_>], other: &str, same: Option<&str>) -> Panel {
         let faults = |chain: &Chain<'_>| {
             let (first, last) = (chain.first, chain.first + chain.len() as u32 - 1);
             let slots =
@@ -81,11 +82,19 @@ impl<'a> Side<'a> {
             (first..=last).map(move |slot| Fault { slot, sentence: sentence.clone() })
         };
         let title = format!("{}: {}, canonically compressed with reset", self.label, self.judged.name);
-        Panel {
+        let mut panel = Panel {
             faults: chains.iter().flat_map(faults).collect(),
             where_from: self.compressed.where_from.clone(),
             ..Panel::new(title, self.compressed.after.clone())
+        };
+        let (label, only) = (self.label, chains_are(chains.len()));
+        match same {
+            Some(order) => panel.verdict += &format!(" and holds the same chains as {other}{order}"),
+            None => {
+                panel.told.push(format!("does not hold the same chains as {other}: {only} only in {label}"))
+            }
         }
+        panel
     }
 }
 
@@ -111,43 +120,32 @@ fn compared(a: &Side<'_>, b: &Side<'_>) -> Shown {
     let (only_a, only_b) = without_partner(&chains_a, &chains_b);
     let first = first_difference(&a.compressed.after, &b.compressed.after);
     let order = if first.is_some() { ", in another order" } else { "" };
+    let same = Some(order).filter(|_| only_a.is_empty() && only_b.is_empty());
     let parting = |slot| parting((a, &chains_a, &only_a), (b, &chains_b, &only_b), slot);
     let indented = |sentence: String| format!("  {sentence}\n");
     let text = [
         a.line(),
         b.line(),
-        verdict(only_a.len(), only_b.len(), order),
+        verdict(only_a.len(), only_b.len(), same),
         a.only(&only_a),
         b.only(&only_b),
         parting("slot").map(indented).unwrap_or_default(),
         indented(words(first.as_deref())),
     ];
-    let passes = only_a.is_empty() && only_b.is_empty();
-    let mut panels = vec![a.panel(&only_a, b.label), b.panel(&only_b, a.label)];
-    for (panel, (side, other, chains)) in panels.iter_mut().zip([(a, b, &only_a), (b, a, &only_b)]) {
-        match passes {
-            true => panel.verdict += &format!(" and holds the same chains as {}{order}", other.label),
-            false => panel.told.push(format!(
-                "does not hold the same chains as {}: {} only in {}",
-                other.label,
-                chains_are(chains.len()),
-                side.label
-            )),
-        }
-    }
-    if !passes {
+    let mut panels = vec![a.panel(&only_a, b.label, same), b.panel(&only_b, a.label, same)];
+    if same.is_none() {
         // The boxes are those of the compressed arenas, so that the slots of the arenas themselves are old ones.
         panels[0].told.extend(parting("old slot"));
         panels[0].told.push(words(first.as_deref()));
     }
-    Shown { text: text.concat(), panels, passes }
+    Shown { text: text.concat(), panels, passes: same.is_some() }
 }
 
-/// Whether two arenas hold the same, of which so many chains have no partner.
-fn verdict(only_a: usize, only_b: usize, order: &str) -> String {
-    match (only_a, only_b) {
-        (0, 0) => format!("A and B hold the same chains{order}\n"),
-        _ => {
+/// Whether two arenas hold the same, and how; or how many of their chains have no partner.
+fn verdict(only_a: usize, only_b: usize, same: Option<&str>) -> String {
+    match same {
+        Some(order) => format!("A and B hold the same chains{order}\n"),
+        None => {
             let (only_a, only_b) = (chains_are(only_a), chains_are(only_b));
             format!("A and B do not hold the same chains: {only_a} only in A, {only_b} only in B\n")
         }

@@ -45,8 +45,7 @@ pub fn page(panels: &[Panel]) -> String {
         (_, "script") => SCRIPT,
         (_, "titles") => &titles,
         (_, "sections") => &sections,
-        (_, "data") => &data,
-        (_, name) => unreachable!("the page has no {name}"),
+        _ => &data,
     };
     PAGE.split("@@").enumerate().map(filled).collect()
 }
@@ -205,7 +204,7 @@ fn static_faults(name: &str, faults: &[Fault]) -> String {
         .collect();
     let more = match faults.len().saturating_sub(STATIC_FAULTS) {
         0 => String::new(),
-        more => format!("<p>{more} more are not listed here.</p>\n"),
+        more => format!("<p>and {more} more</p>\n"),
     };
     let count = faults.len();
     format!("<h3>{name}: {count}</h3>\n<noscript><ul class=\"static\">\n{each}</ul>\n{more}</noscript>\n")
@@ -322,7 +321,7 @@ mod tests {
         broken.faults = (1..=1_500).map(fault).collect();
         let page = page(&[broken]);
         assert_eq!(page.matches("<li><b>").count(), STATIC_FAULTS);
-        assert!(page.contains("<p>500 more are not listed here.</p>"));
+        assert!(page.contains("<p>and 500 more</p>"));
         assert_eq!(page.matches("\"slot 1500: its next is 0\"").count(), 1);
     }
 

@@ -18,7 +18,8 @@ pub struct Panel {
     /// What else must be told of it, such as where it differs from another arena
     pub told: Vec<String>,
     pub arena: OwnedArena,
-    /// What is wrong, by rising slots; of a rule that fails at no slot nothing. Where the check passes, what differs
+    /// What is wrong, by rising slots; of a rule that fails at no slot nothing. Where the check passes, the slots on chains
+    /// without a partner
     pub faults: Vec<Fault>,
     /// The old slot of each link by its new one, after a compression
     pub where_from: Vec<Slot>,

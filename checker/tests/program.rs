@@ -549,6 +549,7 @@ fn each_refusal_is_explained_and_its_slot_is_drawn_red() {
     let row = |from, to| changed(&[(from, to)]);
     let cases = [
         (1, header("header 5 4 3"), "the header has 3 words, but it must have 4", ""),
+        (1, header("header 5"), "the header has 1 word, but it must have 4", ""),
         (
             1,
             row("5 1 0 5 50", "5 1 0 5 -"),
@@ -558,7 +559,7 @@ fn each_refusal_is_explained_and_its_slot_is_drawn_red() {
         (2, header("header 5 4 3 1"), "the current generation is 1, but it must be at least 2", ""),
         (3, header("header 6 4 3 5"), "the stack length is 6, but the columns have only 5 slots", ""),
         (3, header("header 5 7 3 5"), "the link count is 7, but the columns have only 5 slots", ""),
-        (4, header("header 5 5 3 5"), "the link count is 5, but 4 of the stack's 5 slots are links", ""),
+        (4, header("header 5 5 3 5"), "the link count is 5, but the stack of 5 slots has 4 links", ""),
         (5, header("header 5 4 0 5"), "there is no freelist root, but slot 3 is free", "3"),
         (
             5,
@@ -620,7 +621,6 @@ fn each_refusal_is_explained_and_its_slot_is_drawn_red() {
         assert_eq!(ran.stdout.lines().nth(1), Some(format!("  {why}").as_str()));
         assert_eq!((ran.stdout.lines().count(), ran.stderr.as_str(), ran.status), (2, "", 1));
         assert_eq!(drawn_broken(&picture).concat(), slot, "the red slot, where {why}");
-        let why = why.replace('\'', "&apos;");
         assert!(picture.contains(&format!(">refused with {number}: {why}</text>")));
     }
 }
