@@ -303,6 +303,8 @@ mod tests {
             header,
         };
         assert!(page(&[]).contains("[]\n</script>"));
+        let title = "<h2 id=\"title-1\">@@data@@</h2>";
+        assert!(page(&[panel("@@data@@", OwnedArena::empty(1))]).contains(title));
         for (arena, words) in [
             (OwnedArena::default(), "<dt>Root</dt><dd>missing</dd>"),
             (odd([3, 2, 1, 0], vec![3]), "<dt>Stack length</dt><dd>3</dd>"),

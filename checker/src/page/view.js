@@ -9,6 +9,7 @@ const PACKED_GAP = 8;
 const LEAST_HEIGHT = 200;
 /** How high a list is from which on buttons lead to its parts, in pixels. */
 const NAV_FROM = 480;
+
 /** The widths of letters in a font, each measured once, since there may be a sentence for each slot. */
 class Letters {
   constructor({ fontSize, fontFamily }) {
@@ -20,10 +21,14 @@ class Letters {
   /** How wide a word is. */
   width(word) {
     let width = 0;
-    for (const letter of word) {
-      if (!this.widths.has(letter)) this.widths.set(letter, this.pen.measureText(letter).width);
-      width += this.widths.get(letter);
-    }
+    for (const letter of word) width += this.widths.get(letter) ?? this.measure(letter);
+    return width;
+  }
+
+  /** Measures a letter. */
+  measure(letter) {
+    const { width } = this.pen.measureText(letter);
+    this.widths.set(letter, width);
     return width;
   }
 
@@ -251,7 +256,7 @@ class View {
   makeFaultLines() {
     const { fault: height, faultMargin, letters } = this.size;
     const width = printing ? this.width : this.faults.space.clientWidth;
-    // A browser may set letters a little wider than it measures them, so some room is left.
+    // A browser may set letters a little wider than it measures them, so some room is left; and a line is never too narrow.
     const room = Math.max(60, (width - faultMargin) * 0.995);
     return this.arena.faults.map((fault) => ({ fault, height: height * letters.lines(fault.sentence, room) }));
   }
