@@ -561,7 +561,7 @@ for (let panel = 1; panel <= 5; panel++) { list(panel).scrollTop = 1e9; list(pan
 for (let panel = 1; panel <= 5; panel++) note(box(panel, 65535) !== null);
 note(panels.every((panel) => panel.querySelectorAll('.box').length < 300));
 for (let panel = 1; panel <= 5; panel++) { look('40000', 'slot'); note(chosen()); note(box(panel, 40000).classList.contains('chosen')); }
-dispatchEvent(new Event('beforeprint'));
+views[4].print();
 note(list(5).querySelectorAll('.line').length);
 const [, from, to, all] = list(5).querySelector('.cut').textContent.match(/^Lines (\\d+) to (\\d+) of (\\d+) are printed.$/).map(Number);
 note(to - from); note(all > 5000);
@@ -612,12 +612,12 @@ panels[0].style.width = '420px'; lay();
 note(Number(seen().querySelector('.box').dataset.slot) <= slot && slot <= Number([...seen().querySelectorAll('.box')].at(-1).dataset.slot));
 const linesIn = (node) => { const text = document.createRange(); text.selectNodeContents(node); return text.getClientRects().length; };
 let [low, high] = [0, 0];
-for (let width = 340; width < 520; width += 3) {
+for (let width = 340; width < 520; width += 6) {
   panels[0].style.width = `${width}px`; lay();
   const spare = [...document.querySelectorAll('.fault')].map((fault) => Math.round(fault.offsetHeight / 24) - linesIn(fault.lastChild));
   low += spare.some((lines) => lines < 0); high += spare.some((lines) => lines > 0);
 }
-note(low); note(high < 9 || high);
+note(low); note(high < 5 || high);
 dispatchEvent(new Event('beforeprint'));
 const printed = [...list(1).querySelectorAll('.box')].map((box) => Number(box.dataset.slot));
 note(printed.length); note(new Set(printed).size); note(document.querySelectorAll('.fault').length);
@@ -635,7 +635,7 @@ lay(); note(Math.abs(lines().length - few) < 10); note(document.querySelectorAll
             "true",
             "true",
             "true",
-            // No line is too low for its sentence at any of sixty widths, and at few of them one is too high.
+            // No line is too low for its sentence at any of thirty widths, and at few of them one is too high.
             "0",
             "true",
             "1200",
