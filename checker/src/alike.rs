@@ -232,6 +232,20 @@ mod tests {
     }
 
     #[test]
+    fn of_equal_beginnings_one_that_fits_is_taken_and_else_the_first() {
+        let open = |payloads| Chain { closed: false, first: 1, payloads };
+        let place = |others: [&Chain<'_>; 3]| {
+            most_alike(&open(&[1, 2, 3]), others.into_iter().copied().enumerate()).unwrap().place
+        };
+        let (fits, other) = (open(&[1, 2, 4]), open(&[1, 2]));
+        let closed = Chain { closed: true, ..fits };
+        assert_eq!(place([&other, &closed, &fits]), 2);
+        assert_eq!(place([&closed, &fits, &fits]), 1);
+        assert_eq!(place([&other, &closed, &other]), 0);
+        assert_eq!(place([&fits, &other, &open(&[1, 2, 3, 4])]), 2);
+    }
+
+    #[test]
     fn no_beginning_is_longer() {
         let words: Vec<Vec<u32>> = (1..=5u32)
             .flat_map(|length| {

@@ -1,4 +1,4 @@
-//! Reading any arena by slot, whole or broken: a word that is not there reads as 0.
+//! Reading any arena by slot, whole or broken: a word that is not there reads as 0, but for a payload.
 
 use chain_arena::{Header, OwnedArena};
 
@@ -14,8 +14,8 @@ pub trait BySlot {
     fn next(&self, slot: u32) -> u32;
     /// The generation of a slot.
     fn generation(&self, slot: u32) -> u32;
-    /// The payload of a slot.
-    fn payload(&self, slot: u32) -> u32;
+    /// The payload of a slot; none where its column has ended.
+    fn payload(&self, slot: u32) -> Option<u32>;
 
     /// Whether a slot of the stack is a link.
     fn is_link(&self, slot: u32) -> bool {
@@ -50,8 +50,8 @@ impl BySlot for OwnedArena {
         at(&self.generation, slot)
     }
 
-    fn payload(&self, slot: u32) -> u32 {
-        at(&self.payload, slot)
+    fn payload(&self, slot: u32) -> Option<u32> {
+        (slot as usize).checked_sub(1).and_then(|place| self.payload.get(place)).copied()
     }
 }
 

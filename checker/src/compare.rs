@@ -71,26 +71,30 @@ impl<'a> Side<'a> {
         text
     }
 
-    /// The compressed arena to draw, with the chains that have no partner in the other one.
-    fn panel(&self, chains: &[Chain<'_>], other: &str) -> Panel {
-        let fault = |slot, first, last| Fault {
-            slot,
-            sentence: format!(
-                "slot {slot}: its chain, from slot {first} to slot {last}, has no partner in {other}"
-            ),
-        };
+    /// The compressed arena to draw, with the chains that have no partner in the other one. `same` is how the two hold the
+    /// same, if they do.
+    fn panel(&self, chains: &[Chain<'_>], other: &str, same: Option<&str>) -> Panel {
         let faults = |chain: &Chain<'_>| {
             let (first, last) = (chain.first, chain.first + chain.len() as u32 - 1);
-            (first..=last).map(move |slot| fault(slot, first, last))
+            let slots =
+                if first == last { format!("slot {first}") } else { format!("slots {first} to {last}") };
+            let sentence = format!("its chain, {slots}, has no partner in {other}");
+            (first..=last).map(move |slot| Fault { slot, sentence: sentence.clone() })
         };
         let title = format!("{}: {}, canonically compressed with reset", self.label, self.judged.name);
-        Panel {
-            sentence: Some(format!("{} only in {}", counted(chains.len()), self.label))
-                .filter(|_| !chains.is_empty()),
+        let mut panel = Panel {
             faults: chains.iter().flat_map(faults).collect(),
             where_from: self.compressed.where_from.clone(),
             ..Panel::new(title, self.compressed.after.clone())
+        };
+        let (label, only) = (self.label, chains_are(chains.len()));
+        match same {
+            Some(order) => panel.verdict += &format!(" and holds the same chains as {other}{order}"),
+            None => {
+                panel.told.push(format!("does not hold the same chains as {other}: {only} only in {label}"))
+            }
         }
+        panel
     }
 }
 
@@ -99,13 +103,15 @@ pub fn compare(a: &Judged, b: &Judged) -> Result<Shown, String> {
     let refused: Vec<&Judged> = [a, b].into_iter().filter(|judged| judged.refused.is_some()).collect();
     if !refused.is_empty() {
         let text = refused.iter().map(|judged| judged.text()).collect::<String>() + "not compared\n";
-        return Ok(Shown {
-            text,
-            panels: refused.iter().map(|judged| judged.panel()).collect(),
-            passes: false,
-        });
+        return Ok(Shown { text, panels: vec![not_compared("A", a), not_compared("B", b)], passes: false });
     }
     Ok(compared(&Side::new("A", a)?, &Side::new("B", b)?))
+}
+
+/// An arena to draw as it is, since it or the other one is refused.
+fn not_compared(label: &str, judged: &Judged) -> Panel {
+    let title = format!("{label}: {}", judged.name);
+    Panel { title, told: vec!["not compared".to_string()], ..judged.panel() }
 }
 
 /// What two whole arenas have in common, and what not.
@@ -113,76 +119,82 @@ fn compared(a: &Side<'_>, b: &Side<'_>) -> Shown {
     let (chains_a, chains_b) = (chains(&a.compressed.after), chains(&b.compressed.after));
     let (only_a, only_b) = without_partner(&chains_a, &chains_b);
     let first = first_difference(&a.compressed.after, &b.compressed.after);
+    let order = if first.is_some() { ", in another order" } else { "" };
+    let same = Some(order).filter(|_| only_a.is_empty() && only_b.is_empty());
+    let parting = |slot| parting((a, &chains_a, &only_a), (b, &chains_b, &only_b), slot);
+    let indented = |sentence: String| format!("  {sentence}\n");
     let text = [
         a.line(),
         b.line(),
-        verdict(only_a.len(), only_b.len(), first.is_none()),
+        verdict(only_a.len(), only_b.len(), same),
         a.only(&only_a),
         b.only(&only_b),
-        parting((a, &chains_a, &only_a), (b, &chains_b, &only_b)),
-        words(first),
+        parting("slot").map(indented).unwrap_or_default(),
+        indented(words(first.as_deref())),
     ];
-    Shown {
-        text: text.concat(),
-        panels: vec![a.panel(&only_a, b.label), b.panel(&only_b, a.label)],
-        passes: only_a.is_empty() && only_b.is_empty(),
+    let mut panels = vec![a.panel(&only_a, b.label, same), b.panel(&only_b, a.label, same)];
+    if same.is_none() {
+        // The boxes are those of the compressed arenas, so that the slots of the arenas themselves are old ones.
+        panels[0].told.extend(parting("old slot"));
+        panels[0].told.push(words(first.as_deref()));
     }
+    Shown { text: text.concat(), panels, passes: same.is_some() }
 }
 
-/// Whether two arenas hold the same, of which so many chains have no partner.
-fn verdict(only_a: usize, only_b: usize, same_words: bool) -> String {
-    match (only_a, only_b, same_words) {
-        (0, 0, true) => "A and B hold the same chains\n".to_string(),
-        (0, 0, false) => "A and B hold the same chains, in another order\n".to_string(),
-        _ => {
-            let (only_a, only_b) = (counted(only_a), counted(only_b));
+/// Whether two arenas hold the same, and how; or how many of their chains have no partner.
+fn verdict(only_a: usize, only_b: usize, same: Option<&str>) -> String {
+    match same {
+        Some(order) => format!("A and B hold the same chains{order}\n"),
+        None => {
+            let (only_a, only_b) = (chains_are(only_a), chains_are(only_b));
             format!("A and B do not hold the same chains: {only_a} only in A, {only_b} only in B\n")
         }
     }
 }
 
 /// What is said of the words of the compressed arenas, which may differ somewhere.
-fn words(first: Option<String>) -> String {
+fn words(first: Option<&str>) -> String {
     let said = match first {
         Some(first) => format!("they first differ at slot {first}"),
         None => "both have the same words: prev, next and payload of each link".to_string(),
     };
-    format!("  canonically compressed, {said}\n")
+    format!("canonically compressed, {said}")
 }
 
 /// A side, its chains, and those of them that have no partner.
 type Sided<'s> = (&'s Side<'s>, &'s [Chain<'s>], &'s [Chain<'s>]);
 
-/// Where the first chain without a partner parts from the chain of the other side that begins most like it.
-fn parting(a: Sided<'_>, b: Sided<'_>) -> String {
+/// Where the first chain without a partner parts from the chain of the other side that begins most like it. The slots of the
+/// arenas themselves go by the word `slot`.
+fn parting(a: Sided<'_>, b: Sided<'_>, slot: &str) -> Option<String> {
     let ((side, _, only), (other_side, all, others)) = if a.2.is_empty() { (b, a) } else { (a, b) };
-    let Some(chain) = only.first() else { return String::new() };
+    let chain = only.first()?;
     // A changed chain has no partner either; one that has is only looked at where there is no other.
     let others = if others.is_empty() { all } else { others };
-    let Some(alike) = most_alike(chain, others.iter().copied().enumerate()) else { return String::new() };
+    let alike = most_alike(chain, others.iter().copied().enumerate())?;
     let other = &others[alike.place];
     let Alike { from, other_from, shared, .. } = alike;
     if shared == chain.len() && shared == other.len() && chain.closed == other.closed {
-        return format!("  {} holds the first of these more often than {}\n", side.label, other_side.label);
+        return Some(format!("{} holds the first of these more often than {}", side.label, other_side.label));
     }
-    format!(
-        "  the first only in {} and the chain of {} that begins most like it part at place {}: {} in {}, {} in {}\n",
+    Some(format!(
+        "the first only in {} and the chain of {} that begins most like it part at place {}: {} in {}, {} in {}",
         side.label,
         other_side.label,
         shared + 1,
-        at(side, chain, from, shared),
+        at(side, chain, (from, shared), slot),
         side.label,
-        at(other_side, other, other_from, shared),
+        at(other_side, other, (other_from, shared), slot),
         other_side.label,
-    )
+    ))
 }
 
 /// What a chain that is read from a place on has after so many links.
-fn at(side: &Side<'_>, chain: &Chain<'_>, from: usize, links: usize) -> String {
-    let slot = |links: usize| side.old_slot(chain, (from + links) % chain.len());
+fn at(side: &Side<'_>, chain: &Chain<'_>, (from, links): (usize, usize), slot: &str) -> String {
+    let number = |links: usize| side.old_slot(chain, (from + links) % chain.len());
     match (chain.from(from).nth(links), chain.closed) {
-        (Some(payload), _) => format!("payload {payload} (slot {})", slot(links)),
-        (None, true) => format!("the way back to slot {}", slot(0)),
+        (Some(payload), _) => format!("payload {payload} ({slot} {})", number(links)),
+        (None, true) => format!("the way back to {slot} {}", number(0)),
         (None, false) => "the end".to_string(),
     }
 }
@@ -190,7 +202,8 @@ fn at(side: &Side<'_>, chain: &Chain<'_>, from: usize, links: usize) -> String {
 /// The first slot at which the words of two compressed arenas differ, and how.
 fn first_difference(a: &OwnedArena, b: &OwnedArena) -> Option<String> {
     const NAMES: [&str; 3] = ["prev", "next", "payload"];
-    let words = |arena: &OwnedArena, slot| [arena.prev(slot), arena.next(slot), arena.payload(slot)];
+    let words =
+        |arena: &OwnedArena, slot| [arena.prev(slot), arena.next(slot), arena.payload(slot).unwrap_or(0)];
     let links = [a, b].map(|arena| *arena.stack().end());
     for slot in 1..=links[0].max(links[1]) {
         match links.map(|last| slot <= last) {
@@ -207,8 +220,12 @@ fn first_difference(a: &OwnedArena, b: &OwnedArena) -> Option<String> {
 }
 
 /// So many chains, with the verb.
-fn counted(chains: usize) -> String {
-    if chains == 1 { "1 chain is".to_string() } else { format!("{chains} chains are") }
+fn chains_are(chains: usize) -> String {
+    match chains {
+        0 => "none is".to_string(),
+        1 => "1 chain is".to_string(),
+        _ => format!("{chains} chains are"),
+    }
 }
 
 /// The first few words with arrows between them, and how many more there are.
@@ -370,7 +387,9 @@ mod tests {
         let twice = said(&[open(&[1]), open(&[1])], &[open(&[1])]);
         assert!(twice.contains("\n  A holds the first of these more often than B\n"), "{twice}");
         let more = said(&[open(&[1])], &[open(&[1]), closed(&[2])]);
-        assert!(more.contains("0 chains are only in A, 1 chain is only in B"), "{more}");
+        assert!(more.contains("none is only in A, 1 chain is only in B"), "{more}");
+        let nothing = said(&[], &[open(&[1])]);
+        assert!(nothing.ends_with(" first differ at slot 1: no link in A, a link in B\n"), "{nothing}");
     }
 
     #[test]

@@ -91,16 +91,20 @@ pub fn compress(judged: &Judged, how: How) -> Result<Shown, String> {
     let overflowed = Some(OVERFLOWED.to_string()).filter(|_| compressed.overflowed);
     text.extend(overflowed.iter().map(|sentence| format!("{sentence}\n")));
     text += &format!("before: {}\n{}", header(&judged.arena), judged.rows());
-    let mut panels = vec![judged.panel()];
-    // The chain of a slot that was free is nowhere afterwards.
+    // The chain of a slot that was free is nowhere afterwards, so that no text shows it.
     if around != Some(None) {
-        let around = around.flatten();
-        text += &format!("after: {}\n{}", header(&compressed.after), rows(&compressed.after, around));
-        let Compressed { after: arena, where_from, .. } = compressed;
-        let sentence = overflowed;
-        panels.push(Panel { sentence, where_from, follows: true, around, ..Panel::new(title, arena) });
+        let rows = rows(&compressed.after, around.flatten());
+        text += &format!("after: {}\n{rows}", header(&compressed.after));
     }
-    Ok(Shown { text, panels, passes: true })
+    let Compressed { after: arena, where_from, .. } = compressed;
+    let after = Panel {
+        told: overflowed.into_iter().collect(),
+        where_from,
+        follows: true,
+        around: around.flatten(),
+        ..Panel::new(title, arena)
+    };
+    Ok(Shown { text, panels: vec![judged.panel(), after], passes: true })
 }
 
 /// What was done to an arena, in words.
@@ -119,7 +123,7 @@ fn header(arena: &OwnedArena) -> String {
 /// The words of a slot that are read: of a free slot only its next, above the stack none.
 fn words(a: &OwnedArena, slot: u32) -> String {
     if a.is_link(slot) {
-        cells([a.prev(slot), a.next(slot), a.generation(slot), a.payload(slot)])
+        cells([a.prev(slot), a.next(slot), a.generation(slot), a.payload(slot).unwrap_or(0)])
     } else if a.is_free(slot) {
         cells(["-", &a.next(slot).to_string(), "free", "-"])
     } else {

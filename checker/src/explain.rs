@@ -6,6 +6,7 @@ use chain_arena::{Header, OwnedArena, Refusal};
 
 use crate::by_slot::BySlot;
 use crate::panel::Fault;
+use crate::wording::counted;
 
 /// Why a rule fails.
 #[derive(Debug, PartialEq, Eq)]
@@ -53,7 +54,7 @@ impl Why {
     /// How many faults there are.
     fn count(&self) -> String {
         let slots = self.faults.chunk_by(|one, other| one.slot == other.slot).count();
-        format!("{} faults at {slots} {}", self.faults.len(), if slots == 1 { "slot" } else { "slots" })
+        format!("{} faults at {}", self.faults.len(), counted(slots, "slot"))
     }
 }
 
@@ -67,10 +68,10 @@ pub fn explain(a: &OwnedArena, refusal: Refusal) -> Why {
         }
         3 => Why::whole(over_capacity(a)),
         4 => Why::whole(format!(
-            "the link count is {}, but {} of the stack's {} slots are links",
+            "the link count is {}, but the stack of {} has {}",
             header.link_count,
-            a.stack().filter(|&slot| a.is_link(slot)).count(),
-            header.stack_length
+            counted(header.stack_length as usize, "slot"),
+            counted(a.stack().filter(|&slot| a.is_link(slot)).count(), "link")
         )),
         5 => root(a),
         11 => interlinks(a),
@@ -84,10 +85,11 @@ fn shape(a: &OwnedArena) -> String {
     let [prev, next, generation, payload] = lengths;
     if lengths.iter().any(|&length| length != prev) {
         format!(
-            "the columns differ in length: prev has {prev} words, next {next}, generation {generation} and payload {payload}"
+            "the columns differ in length: prev has {}, next {next}, generation {generation} and payload {payload}",
+            counted(prev, "word")
         )
     } else if a.header.len() != Header::WORDS {
-        format!("the header has {} words, but it must have {}", a.header.len(), Header::WORDS)
+        format!("the header has {}, but it must have {}", counted(a.header.len(), "word"), Header::WORDS)
     } else {
         format!("the columns have {prev} words each, but the most is 65,535")
     }
@@ -101,7 +103,7 @@ fn over_capacity(a: &OwnedArena) -> String {
     } else {
         ("stack length", header.stack_length)
     };
-    format!("the {name} is {count}, but the columns have only {capacity} slots")
+    format!("the {name} is {count}, but the columns have only {}", counted(capacity, "slot"))
 }
 
 /// Rule 5: a root exactly if a slot is free.

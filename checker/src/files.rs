@@ -8,6 +8,9 @@ use std::path::{Path, PathBuf};
 
 use crate::quote::{plain, quoted};
 
+/// How many links may lead from one to the other, as everywhere on Linux.
+const LINKS: usize = 40;
+
 /// Where the text of an arena comes from.
 #[derive(Clone, Debug, PartialEq, Eq)]
 pub enum Source {
@@ -114,10 +117,20 @@ impl Place {
 
 /// A path without links. The last part of a path may lead to nothing yet.
 fn resolved(path: &Path) -> Option<PathBuf> {
-    fs::canonicalize(path).ok().or_else(|| {
+    let mut path = path.to_path_buf();
+    for _ in 0..LINKS {
+        if let Ok(found) = fs::canonicalize(&path) {
+            return Some(found);
+        }
         let folder = path.parent().filter(|folder| *folder != Path::new("")).unwrap_or(Path::new("."));
-        Some(fs::canonicalize(folder).ok()?.join(path.file_name()?))
-    })
+        let end = fs::canonicalize(folder).ok()?.join(path.file_name()?);
+        match fs::read_link(&end) {
+            // A link that leads to nothing yet is followed by hand.
+            Ok(to) => path = end.parent()?.join(to),
+            Err(_) => return Some(end),
+        }
+    }
+    None
 }
 
 /// Device and number of a file.
@@ -159,6 +172,14 @@ mod tests {
         }
         assert_eq!((clash("a", "b"), clash("here/new", "new")), (None, Some(())));
         assert_eq!(clash("nowhere/a", "nowhere/a"), None);
+        // Links that lead to nothing yet, one of them by way of another, and one that leads to itself.
+        symlink("later", folder.join("one")).unwrap();
+        symlink("here/one", folder.join("two")).unwrap();
+        symlink("loop", folder.join("loop")).unwrap();
+        for (one, other) in [("one", "later"), ("later", "two"), ("one", "two"), ("two", "here/later")] {
+            assert_eq!(clash(one, other), Some(()), "{one} {other}");
+        }
+        assert_eq!((clash("one", "a"), clash("loop", "later")), (None, None));
         fs::remove_dir_all(&folder).unwrap();
     }
 }

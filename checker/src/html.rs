@@ -9,7 +9,10 @@ use std::collections::BTreeMap;
 use crate::by_slot::BySlot;
 use crate::panel::{Fault, Panel};
 use crate::picture::{Kind, Picture, Row};
+use crate::wording::{counted, escaped, visible};
 
+/// The page, with the names of what is to be filled in between `@@` and `@@`. What is filled in is not looked at again.
+const PAGE: &str = include_str!("page/page.html");
 const STYLE: &str = include_str!("page/page.css");
 const SCRIPT: &str = concat!(
     include_str!("page/arena.js"),
@@ -30,77 +33,30 @@ const LISTED: usize = 8;
 
 /// The page that shows the panels side by side.
 pub fn page(panels: &[Panel]) -> String {
-    let shown: Vec<Shown<'_>> = panels.iter().map(Shown::new).collect();
+    let pages: Vec<PanelPage<'_>> = panels.iter().map(PanelPage::new).collect();
     let titles: Vec<String> = panels.iter().map(|panel| escaped(&panel.title)).collect();
     let titles = titles.join(" | ");
-    let sections: String = shown.iter().enumerate().map(|(k, shown)| shown.section(k + 1)).collect();
-    let data: Vec<String> = shown.iter().map(Shown::data).collect();
+    let sections: String = pages.iter().enumerate().map(|(k, page)| page.section(k + 1)).collect();
+    let data: Vec<String> = pages.iter().map(PanelPage::data).collect();
     let data = data.join(",\n");
-    format!(
-        r##"<!doctype html>
-<html lang="en">
-<head>
-<meta charset="utf-8">
-<meta http-equiv="Content-Security-Policy" content="default-src 'none'; style-src 'unsafe-inline'; script-src 'unsafe-inline'; base-uri 'none'; form-action 'none'">
-<meta name="viewport" content="width=device-width, initial-scale=1">
-<meta name="color-scheme" content="light dark">
-<title>Chain arena: {titles}</title>
-<style>
-{STYLE}</style>
-</head>
-<body>
-<header>
-<h1>Chain arena</h1>
-<form role="search" id="search" hidden>
-<label for="wanted">Find</label>
-<input id="wanted" type="search" placeholder="number, or 0x.." autocomplete="off" spellcheck="false" aria-describedby="found">
-<select id="by" aria-label="Find by">
-<option value="any">slot or payload</option>
-<option value="slot">slot</option>
-<option value="payload">payload</option>
-<option value="generation">generation</option>
-</select>
-<button>Find</button>
-<span class="steps">
-<button type="button" id="hit-before" aria-label="Hit before" disabled>&#8249;</button>
-<button type="button" id="hit-after" aria-label="Hit after" disabled>&#8250;</button>
-</span>
-<output id="found" for="wanted"></output>
-</form>
-</header>
-<noscript><p class="notice">The chains are drawn by a script, and scripts are turned off here. What follows are the verdicts, the headers and the broken slots.</p></noscript>
-<main>
-{sections}</main>
-<footer id="help" hidden>
-<details>
-<summary>Signs and keys</summary>
-<ul>
-<li>A box is a slot: its number, and below it the payload of the link. An arrow leads to the next link, and that link's prev leads back.</li>
-<li><i>gen</i> is a generation that differs from the current one. After a compression <i>from</i> is the slot where the link was, and <i>to</i> the slot where it went.</li>
-<li>Grey boxes are free. Red boxes are broken slots, and a red pointer leads to where it may not.</li>
-<li><kbd>/</kbd> goes to the search, <kbd>Enter</kbd> to the next hit and <kbd>Shift</kbd> <kbd>Enter</kbd> to the one before.</li>
-<li>In a list of slots, <kbd>&#8592;</kbd> and <kbd>&#8594;</kbd> follow prev and next, <kbd>Home</kbd> and <kbd>End</kbd> go to the ends of the chain. In a list of broken slots, <kbd>&#8593;</kbd> and <kbd>&#8595;</kbd> go from one to the other.</li>
-</ul>
-</details>
-</footer>
-<script type="application/json" id="data">
-[{data}]
-</script>
-<script>
-{SCRIPT}</script>
-</body>
-</html>
-"##
-    )
+    let filled = |(k, part)| match (k % 2, part) {
+        (0, text) => text,
+        (_, "style") => STYLE,
+        (_, "script") => SCRIPT,
+        (_, "titles") => &titles,
+        (_, "sections") => &sections,
+        _ => &data,
+    };
+    PAGE.split("@@").enumerate().map(filled).collect()
 }
 
 /// A panel with the rows of its arena.
-struct Shown<'p> {
+struct PanelPage<'p> {
     panel: &'p Panel,
     picture: Picture,
 }
 
-impl<'p> Shown<'p> {
+impl<'p> PanelPage<'p> {
     /// Finds the rows of a panel's arena.
     fn new(panel: &'p Panel) -> Self {
         Self { panel, picture: Picture::of(&panel.arena) }
@@ -109,12 +65,9 @@ impl<'p> Shown<'p> {
     /// The part of the page that shows the panel, as far as it needs no script. Panels are counted from 1.
     fn section(&self, number: usize) -> String {
         let title = escaped(&self.panel.title);
-        let (passes, class) = match self.panel.passes {
-            true => ("<p class=\"verdict passes\">passes the check</p>\n", "told"),
-            false => ("", "refused"),
-        };
-        let sentence = |text: &String| format!("<p class=\"verdict {class}\">{}</p>\n", escaped(text));
-        let sentence = self.panel.sentence.as_ref().map(sentence).unwrap_or_default();
+        let said = |class: &str, text: &str| format!("<p class=\"verdict {class}\">{}</p>\n", escaped(text));
+        let verdict = said(if self.panel.passes { "passes" } else { "refused" }, &self.panel.verdict);
+        let told: String = self.panel.told.iter().map(|sentence| said("told", sentence)).collect();
         let words = facts("header", &self.words());
         let counts = facts("counts", &self.counts());
         let generations = self.other_generations(number);
@@ -123,7 +76,7 @@ impl<'p> Shown<'p> {
         format!(
             r#"<section class="panel" id="panel-{number}" aria-labelledby="title-{number}">
 <h2 id="title-{number}">{title}</h2>
-{passes}{sentence}{words}{counts}{generations}{faults}<div class="live" hidden>
+{verdict}{told}{words}{counts}{generations}{faults}<div class="live" hidden>
 <div class="faults" role="listbox" tabindex="0" aria-label="{name} of {title}"></div>
 <div class="card" role="group" aria-live="polite" aria-label="Chosen slot of {title}"></div>
 <nav aria-label="Parts of {title}"></nav>
@@ -134,21 +87,17 @@ impl<'p> Shown<'p> {
         )
     }
 
-    /// What the panel's faults are: where the check passes, what differs from another arena.
+    /// What the panel's faults are: where the check passes, they come from a comparison.
     fn name_of_faults(&self) -> &'static str {
-        if self.panel.passes { "Differences" } else { "Faults" }
+        if self.panel.passes { "Slots without a partner" } else { "Faults" }
     }
 
     /// The header's words by name.
     fn words(&self) -> Vec<(&'static str, String)> {
-        let header = &self.panel.arena.header;
-        let names = ["Stack length", "Link count", "Root", "Current generation"];
-        let word = |place| header.get(place).map_or("missing".to_string(), u32::to_string);
-        let mut words: Vec<_> = names.into_iter().enumerate().map(|(k, name)| (name, word(k))).collect();
-        if let Some(further) = header.get(names.len()..).filter(|further| !further.is_empty()) {
-            words.push(("Further words", listed(further.iter().map(u32::to_string))));
-        }
-        words
+        let further = self.panel.further_words();
+        let further = Some(("Further words", listed(further.iter().map(u32::to_string))))
+            .filter(|_| !further.is_empty());
+        self.panel.header_words().chain(further).collect()
     }
 
     /// What the arena holds, in numbers.
@@ -174,17 +123,15 @@ impl<'p> Shown<'p> {
         let arena = &self.panel.arena;
         let mut counts = BTreeMap::new();
         for slot in arena.stack().filter(|&slot| arena.is_link(slot)) {
-            *counts.entry(arena.generation(slot)).or_insert(0u32) += 1;
+            *counts.entry(arena.generation(slot)).or_insert(0) += 1;
         }
         counts.remove(&arena.header().generation);
         if counts.is_empty() {
             return String::new();
         }
         let each = counts.iter().map(|(generation, count)| {
-            let links = if *count == 1 { "link" } else { "links" };
-            format!(
-                r##"<a href="#panel={number}&amp;generation={generation}">{generation}</a> ({count} {links})"##
-            )
+            let links = counted(*count, "link");
+            format!(r##"<a href="#panel={number}&amp;generation={generation}">{generation}</a> ({links})"##)
         });
         format!("<p class=\"generations\">Other generations: {}</p>\n", listed(each))
     }
@@ -193,10 +140,11 @@ impl<'p> Shown<'p> {
     fn data(&self) -> String {
         let (panel, rows) = (self.panel, &self.picture.rows);
         let (arena, header) = (&panel.arena, panel.arena.header());
-        let sentences: Vec<String> = panel.faults.iter().map(|fault| quoted(&fault.sentence)).collect();
+        let sentences: Vec<String> = panel.faults.iter().map(|fault| json_string(&fault.sentence)).collect();
         [
-            format!(r#"{{"title":{}"#, quoted(&panel.title)),
+            format!(r#"{{"title":{}"#, json_string(&panel.title)),
             format!(r#""stack":{}"#, arena.stack().count()),
+            format!(r#""stackLength":{}"#, header.stack_length),
             format!(r#""capacity":{}"#, arena.capacity()),
             format!(r#""root":{}"#, header.root),
             format!(r#""current":{}"#, header.generation),
@@ -256,55 +204,24 @@ fn static_faults(name: &str, faults: &[Fault]) -> String {
         .collect();
     let more = match faults.len().saturating_sub(STATIC_FAULTS) {
         0 => String::new(),
-        more => format!("<p>{more} more are not listed here.</p>\n"),
+        more => format!("<p>and {more} more</p>\n"),
     };
     let count = faults.len();
     format!("<h3>{name}: {count}</h3>\n<noscript><ul class=\"static\">\n{each}</ul>\n{more}</noscript>\n")
 }
 
-/// A character so that it can be seen. Those that break a line or turn the direction of the text are replaced.
-fn visible(character: char) -> char {
-    match character {
-        '\0'..='\x1f' => char::from_u32(0x2400 + u32::from(character)).unwrap_or(char::REPLACEMENT_CHARACTER),
-        '\x7f' => '\u{2421}',
-        '\u{80}'..='\u{9f}'
-        | '\u{61c}'
-        | '\u{200e}'..='\u{200f}'
-        | '\u{2028}'..='\u{202e}'
-        | '\u{2066}'..='\u{2069}'
-        | '\u{feff}' => char::REPLACEMENT_CHARACTER,
-        _ => character,
-    }
-}
-
-/// A text from outside, as text or attribute of the page.
-fn escaped(text: &str) -> String {
-    let mut escaped = String::with_capacity(text.len());
-    for character in text.chars().map(visible) {
-        match character {
-            '&' => escaped += "&amp;",
-            '<' => escaped += "&lt;",
-            '>' => escaped += "&gt;",
-            '"' => escaped += "&quot;",
-            '\'' => escaped += "&#39;",
-            _ => escaped.push(character),
-        }
-    }
-    escaped
-}
-
 /// A text from outside, as a string of the data. No `<` stands in it, so that it cannot end the data.
-fn quoted(text: &str) -> String {
-    let mut quoted = String::with_capacity(text.len() + 2);
-    quoted.push('"');
+fn json_string(text: &str) -> String {
+    let mut string = String::with_capacity(text.len() + 2);
+    string.push('"');
     for character in text.chars().map(visible) {
         match character {
-            '"' | '\\' | '<' | '>' | '&' => quoted += &format!("\\u{:04x}", u32::from(character)),
-            _ => quoted.push(character),
+            '"' | '\\' | '<' | '>' | '&' => string += &format!("\\u{:04x}", u32::from(character)),
+            _ => string.push(character),
         }
     }
-    quoted.push('"');
-    quoted
+    string.push('"');
+    string
 }
 
 /// A column as the script reads it: how many bytes each word has, and the words in base64, their low bytes first.
@@ -349,7 +266,8 @@ mod tests {
         let hostile =
             "a\"b'c&d\\</script><script>e</script><!--<img src=x onerror=f>\u{2028}\u{202e}\0\n\x7f\u{85}";
         let mut broken = Panel { passes: false, ..panel(hostile, OwnedArena::empty(3)) };
-        broken.sentence = Some(hostile.to_string());
+        broken.verdict = hostile.to_string();
+        broken.told = vec![hostile.to_string()];
         broken.faults = vec![Fault { slot: 1, sentence: hostile.to_string() }];
         let tame = page(&[panel("tame", OwnedArena::empty(3)), panel("tame", OwnedArena::empty(3))]);
         let page = page(&[panel("tame", OwnedArena::empty(3)), broken]);
@@ -357,9 +275,10 @@ mod tests {
         assert_eq!(page.matches("</script").count(), tame.matches("</script").count());
         assert!(!page.contains("<!--") && !page.contains("<img"));
         let end = "\u{fffd}\u{fffd}\u{2400}\u{240a}\u{2421}\u{fffd}";
-        let text = "a&quot;b&#39;c&amp;d\\&lt;/script&gt;&lt;script&gt;e&lt;/script&gt;&lt;!--&lt;img src=x onerror=f&gt;";
+        let text = "a&quot;b&apos;c&amp;d\\&lt;/script&gt;&lt;script&gt;e&lt;/script&gt;&lt;!--&lt;img src=x onerror=f&gt;";
         assert!(page.contains(&format!("<h2 id=\"title-2\">{text}{end}</h2>")));
         assert!(page.contains(&format!("<p class=\"verdict refused\">{text}{end}</p>")));
+        assert!(page.contains(&format!("<p class=\"verdict told\">{text}{end}</p>")));
         assert!(page.contains(&format!("<li><b>1</b> {text}{end}</li>")));
         let string =
             r#""a\u0022b'c\u0026d\u005c\u003c/script\u003e\u003cscript\u003ee\u003c/script\u003e\u003c!--"#;
@@ -384,6 +303,8 @@ mod tests {
             header,
         };
         assert!(page(&[]).contains("[]\n</script>"));
+        let title = "<h2 id=\"title-1\">@@data@@</h2>";
+        assert!(page(&[panel("@@data@@", OwnedArena::empty(1))]).contains(title));
         for (arena, words) in [
             (OwnedArena::default(), "<dt>Root</dt><dd>missing</dd>"),
             (odd([3, 2, 1, 0], vec![3]), "<dt>Stack length</dt><dd>3</dd>"),
@@ -402,7 +323,7 @@ mod tests {
         broken.faults = (1..=1_500).map(fault).collect();
         let page = page(&[broken]);
         assert_eq!(page.matches("<li><b>").count(), STATIC_FAULTS);
-        assert!(page.contains("<p>500 more are not listed here.</p>"));
+        assert!(page.contains("<p>and 500 more</p>"));
         assert_eq!(page.matches("\"slot 1500: its next is 0\"").count(), 1);
     }
 

@@ -9,6 +9,7 @@ use crate::files::Source;
 use crate::format;
 use crate::panel::Panel;
 use crate::picture::Picture;
+use crate::wording::counted;
 
 /// An arena with what the check says of it, and the slot whose chain alone is shown, if not all is.
 pub struct Judged {
@@ -39,10 +40,14 @@ impl Judged {
     /// Shows only the chain of a slot, if one is given, which must be on the stack.
     pub fn around(self, around: Option<u32>) -> Result<Self, String> {
         match around.filter(|slot| !self.arena.stack().contains(slot)) {
+            Some(slot) if slot <= self.arena.header().stack_length => {
+                let capacity = counted(self.arena.capacity(), "slot");
+                Err(format!("{}: there is no slot {slot}, since the columns have only {capacity}", self.name))
+            }
             Some(slot) => Err(format!(
                 "{}: slot {slot} is not on the stack, whose length is {}",
                 self.name,
-                self.arena.stack().count()
+                self.arena.header().stack_length
             )),
             None => Ok(Self { around, ..self }),
         }
@@ -66,14 +71,15 @@ impl Judged {
 
     /// The arena to draw.
     pub fn panel(&self) -> Panel {
-        let refused = self.refused.as_ref();
-        Panel {
-            passes: refused.is_none(),
-            sentence: refused
-                .map(|(refusal, why)| format!("refused with {}: {}", refusal.number(), why.summary())),
-            faults: refused.map(|(_, why)| why.faults.clone()).unwrap_or_default(),
-            around: self.around,
-            ..Panel::new(self.name.clone(), self.arena.clone())
+        let panel = Panel { around: self.around, ..Panel::new(self.name.clone(), self.arena.clone()) };
+        match &self.refused {
+            Some((refusal, why)) => Panel {
+                passes: false,
+                verdict: format!("refused with {}: {}", refusal.number(), why.summary()),
+                faults: why.faults.clone(),
+                ..panel
+            },
+            None => panel,
         }
     }
 
@@ -95,16 +101,17 @@ pub fn rows(arena: &OwnedArena, around: Option<u32>) -> String {
 /// What a whole arena holds, in numbers.
 fn counts(arena: &OwnedArena) -> String {
     let free = arena.stack().filter(|&slot| arena.is_free(slot)).count();
-    format!("{}, {free} free slots, room for {} slots", chain_counts(arena), arena.capacity())
+    let (free, room) = (counted(free, "free slot"), counted(arena.capacity(), "slot"));
+    format!("{}, {free}, room for {room}", chain_counts(arena))
 }
 
 /// How many links and chains a whole arena holds.
 pub fn chain_counts(arena: &OwnedArena) -> String {
     let picture = Picture::of(arena);
+    let links = counted(arena.header().link_count as usize, "link");
     format!(
-        "{} links on {} open and {} closed chains",
-        arena.header().link_count,
+        "{links} on {} open and {}",
         picture.open_chains(),
-        picture.closed_chains(),
+        counted(picture.closed_chains(), "closed chain")
     )
 }

@@ -24,6 +24,7 @@ mod random;
 #[cfg(test)]
 mod robust;
 mod svg;
+mod wording;
 
 use std::env;
 use std::io::{self, ErrorKind, Write};

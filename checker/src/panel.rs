@@ -1,8 +1,11 @@
 //! An arena with what is said of it, to be shown as a picture or on a page.
 
-use chain_arena::{OwnedArena, Slot};
+use chain_arena::{Header, OwnedArena, Slot};
 
 use crate::picture::Picture;
+
+/// The names of the header's words.
+const NAMES: [&str; Header::WORDS] = ["Stack length", "Link count", "Root", "Current generation"];
 
 /// An arena to show.
 #[derive(Clone, Debug)]
@@ -10,10 +13,13 @@ pub struct Panel {
     pub title: String,
     /// Whether the check passes
     pub passes: bool,
-    /// What must be told of it, such as why the check refuses it
-    pub sentence: Option<String>,
+    /// What the check says, and where two arenas hold the same that they do
+    pub verdict: String,
+    /// What else must be told of it, such as where it differs from another arena
+    pub told: Vec<String>,
     pub arena: OwnedArena,
-    /// What is wrong, by rising slots; of a rule that fails at no slot nothing. Where the check passes, what differs
+    /// What is wrong, by rising slots; of a rule that fails at no slot nothing. Where the check passes, the slots on chains
+    /// without a partner
     pub faults: Vec<Fault>,
     /// The old slot of each link by its new one, after a compression
     pub where_from: Vec<Slot>,
@@ -36,7 +42,8 @@ impl Panel {
         Self {
             title,
             passes: true,
-            sentence: None,
+            verdict: "passes the check".to_string(),
+            told: Vec::new(),
             arena,
             faults: Vec::new(),
             where_from: Vec::new(),
@@ -55,6 +62,17 @@ impl Panel {
         let from = self.faults.partition_point(|fault| fault.slot < slot);
         let to = self.faults.partition_point(|fault| fault.slot <= slot);
         &self.faults[from..to]
+    }
+
+    /// The header's words by name; one that is not there is missing.
+    pub fn header_words(&self) -> impl Iterator<Item = (&'static str, String)> {
+        let word = |place| self.arena.header.get(place).map_or("missing".to_string(), u32::to_string);
+        NAMES.into_iter().enumerate().map(move |(place, name)| (name, word(place)))
+    }
+
+    /// The words of the header behind those that have a name.
+    pub fn further_words(&self) -> &[u32] {
+        self.arena.header.get(NAMES.len()..).unwrap_or_default()
     }
 
     /// The rows that are shown.

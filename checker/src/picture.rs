@@ -1,6 +1,7 @@
 //! What an arena holds, as rows of slots: its chains, its lone links, its freelist, and free slots that are not on it. As
 //! text, `1 -> 5` is open and `2 -> 4 -> (2)` is closed.
 
+use std::collections::HashSet;
 use std::iter;
 
 use chain_arena::OwnedArena;
@@ -120,15 +121,17 @@ impl Picture {
     }
 
     /// The rows with the chain of a slot: its own, those that the wrong pointers of that row lead to, and those with a wrong
-    /// pointer to the slot.
+    /// pointer to a slot of that row.
     pub fn around(&self, slot: u32) -> Self {
         let own = self.row_of(slot);
         let wrong = own.as_ref().map(Row::wrong).unwrap_or_default();
+        let of_own: HashSet<u32> = own.iter().flat_map(|row| row.slots.iter().copied()).collect();
         let mut rows: Vec<Row> = own.into_iter().collect();
         for row in wrong.into_iter().flatten().filter_map(|slot| self.row_of(slot)) {
             rows.extend(Some(row).filter(|row| !rows.contains(row)));
         }
-        let from = self.rows.iter().filter(|row| row.wrong().contains(&Some(slot)) && !rows.contains(row));
+        let leads_here = |row: &Row| row.wrong().into_iter().flatten().any(|slot| of_own.contains(&slot));
+        let from = self.rows.iter().filter(|row| leads_here(row) && !rows.contains(row));
         let from: Vec<Row> = from.cloned().collect();
         rows.extend(from);
         Self { rows }

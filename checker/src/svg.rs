@@ -1,11 +1,10 @@
 //! Draws arenas: the header's words, chains as rows of boxes with arrows, free slots and the freelist in grey, broken slots
 //! in red.
 
-use chain_arena::Header;
-
 use crate::by_slot::BySlot;
 use crate::panel::Panel;
 use crate::picture::{Kind, PACKED, Picture, Row};
+use crate::wording::escaped;
 
 /// How many boxes stand on a line; a longer row goes on below.
 const BOXES: usize = PACKED;
@@ -13,8 +12,8 @@ const BOXES: usize = PACKED;
 const LINES: usize = 60;
 /// How many lines of a row are drawn where only the chain of a slot is shown; of a longer one, those around the slot.
 const LINES_AROUND: usize = 11;
-/// How many words of a header are drawn.
-const HEADER_WORDS: usize = 7;
+/// How many words of a header are drawn besides those that have a name.
+const FURTHER_WORDS: usize = 3;
 
 // Sizes, in the picture's units.
 const BOX_WIDTH: usize = 84;
@@ -49,6 +48,7 @@ text { font: 14px sans-serif; fill: #222 }
 .asked rect { stroke: #06c; stroke-width: 4 }
 .broken rect { fill: #fdd; stroke: #d00; stroke-width: 3 }
 .broken text, text.wrong { fill: #b00 }
+text.right { fill: #163 }
 text.told { fill: #850 }
 .broken.asked rect { stroke: #06c; stroke-width: 4 }
 text.before { text-anchor: end }
@@ -150,56 +150,40 @@ fn drawn<'a>(panel: &Panel, picture: &'a Picture) -> Vec<Line<'a>> {
             let lines = rows.flat_map(|row| window(row, LINES_AROUND, focus(own, slot, row[0].row)));
             lines.take(LINES).copied().collect()
         }
-        _ => window(&all, LINES, panel.faults.first().map(|fault| fault.slot)).to_vec(),
+        _ => {
+            // A root that leads to no free slot has a line without boxes, which is drawn in any case.
+            let (bare, boxes): (Vec<_>, Vec<_>) = all.into_iter().partition(|line| line.slots().is_empty());
+            let lines = window(&boxes, LINES, panel.faults.first().map(|fault| fault.slot));
+            lines.iter().copied().chain(bare).collect()
+        }
     }
 }
 
 /// The slot of a row that has to do with the chain of a slot: the slot itself, one that a wrong pointer of its row leads to, or
-/// the last one, which leads to it.
+/// the last one, if that leads to its row.
 fn focus(own: &Row, slot: u32, row: &Row) -> Option<u32> {
     let from_own = own.wrong().into_iter().flatten();
-    let to_own = row.slots.last().filter(|_| row.wrong_next == Some(slot));
+    let to_own = row.slots.last().filter(|_| row.wrong_next.is_some_and(|next| own.slots.contains(&next)));
     [slot].into_iter().chain(from_own).find(|slot| row.slots.contains(slot)).or(to_own.copied())
 }
 
 /// The header's words by name, as many as there are, and the capacity. Of a header that is far too long the first ones.
 fn header_cells(panel: &Panel) -> Vec<(String, String)> {
-    const NAMES: [&str; Header::WORDS] = ["stack length", "link count", "root", "current generation"];
-    let words = &panel.arena.header;
-    let name = |place: usize| {
-        NAMES.get(place).map_or_else(|| format!("word {}", place + 1), |name| name.to_string())
-    };
-    let word = |place: usize| words.get(place).map_or_else(|| "missing".to_string(), u32::to_string);
-    let places = 0..words.len().clamp(NAMES.len(), HEADER_WORDS);
-    let mut cells: Vec<_> = places.map(|place| (name(place), word(place))).collect();
-    if words.len() > HEADER_WORDS {
-        cells.push(("further words".to_string(), (words.len() - HEADER_WORDS).to_string()));
+    let mut cells: Vec<_> = panel.header_words().map(|(name, word)| (name.to_string(), word)).collect();
+    let further = panel.further_words();
+    for word in further.iter().take(FURTHER_WORDS) {
+        cells.push((format!("Word {}", cells.len() + 1), word.to_string()));
     }
-    cells.push(("capacity".to_string(), panel.arena.capacity().to_string()));
+    if further.len() > FURTHER_WORDS {
+        cells.push(("Further words".to_string(), (further.len() - FURTHER_WORDS).to_string()));
+    }
+    cells.push(("Capacity".to_string(), panel.arena.capacity().to_string()));
     cells
 }
 
 /// Whether a slot is a link that has not the current generation.
 fn has_other_generation(panel: &Panel, slot: u32) -> bool {
     panel.arena.is_link(slot) && panel.arena.generation(slot) != panel.arena.header().generation
-}
-
-/// A text as XML may hold it. What may not stand there, and what would break a line, becomes U+FFFD.
-fn escape(text: &str) -> String {
-    let mut escaped = String::with_capacity(text.len());
-    for character in text.chars() {
-        match character {
-            '&' => escaped += "&amp;",
-            '<' => escaped += "&lt;",
-            '>' => escaped += "&gt;",
-            '"' => escaped += "&quot;",
-            '\'' => escaped += "&apos;",
-            '\u{fffe}' | '\u{ffff}' => escaped.push('\u{fffd}'),
-            _ if character.is_control() => escaped.push('\u{fffd}'),
-            _ => escaped.push(character),
-        }
-    }
-    escaped
 }
 
 /// The left edge of the box at a place of its line.
@@ -221,8 +205,9 @@ impl Drawing {
         let picture = panel.picture();
         let lines = drawn(panel, &picture);
         self.text("title", &panel.title);
-        if let Some(sentence) = &panel.sentence {
-            self.text(if panel.passes { "told" } else { "wrong" }, sentence);
+        self.text(if panel.passes { "right" } else { "wrong" }, &panel.verdict);
+        for sentence in &panel.told {
+            self.text("told", sentence);
         }
         self.header(panel);
         if picture.rows.is_empty() {
@@ -231,9 +216,8 @@ impl Drawing {
         let slots: usize = lines.iter().map(|line| line.slots().len()).sum();
         let all: usize = picture.rows.iter().map(|row| row.slots.len()).sum();
         if slots < all {
-            let whole = if panel.around.is_some() { "chain" } else { "stack" };
-            let note = format!("The picture is cut: {slots} of {all} slots of the {whole} are drawn.");
-            self.text("note", &note);
+            let whole = if panel.around.is_some() { "" } else { " of the stack" };
+            self.text("note", &format!("The picture is cut: {slots} of {all} slots{whole} are drawn."));
         }
         self.box_height = BOX_HEIGHT;
         if lines.iter().flat_map(Line::slots).any(|&slot| has_other_generation(panel, slot)) {
@@ -365,12 +349,13 @@ impl Drawing {
         self.body += &format!("<g class=\"slot{kind}{broken}{asked}\">");
         let wrong: Vec<&str> = panel.faults_at(slot).iter().map(|fault| fault.sentence.as_str()).collect();
         if !wrong.is_empty() {
-            self.body += &format!("<title>{}</title>", escape(&wrong.join("; ")));
+            self.body += &format!("<title>{}</title>", escaped(&wrong.join("; ")));
         }
         self.body +=
             &format!("<rect x=\"{x}\" y=\"{y}\" width=\"{BOX_WIDTH}\" height=\"{height}\" rx=\"4\"/>");
         self.label("number", centre, y + 17, &slot.to_string());
-        let payload = if free { "free".to_string() } else { panel.arena.payload(slot).to_string() };
+        let payload = panel.arena.payload(slot).map_or("missing".to_string(), |payload| payload.to_string());
+        let payload = if free { "free".to_string() } else { payload };
         self.label("note", centre, y + 33, &payload);
         if has_other_generation(panel, slot) {
             self.label("note", centre, y + 48, &format!("g {}", panel.arena.generation(slot)));
@@ -398,7 +383,7 @@ impl Drawing {
 
     /// A text somewhere.
     fn label(&mut self, class: &str, x: usize, y: usize, text: &str) {
-        let text = escape(text);
+        let text = escaped(text);
         self.body += &format!("<text class=\"{class}\" x=\"{x}\" y=\"{y}\">{text}</text>\n");
     }
 }

@@ -1,5 +1,8 @@
 //! The page that `--html` writes: what stands in it, and what a browser makes of it. Where there is no Chromium, the tests
 //! that need it say so and are skipped.
+//!
+//! The modules that make the page are included by their paths, since a program's modules cannot be used from here. So a page
+//! can be made of any panels, and several arenas share one start of the browser.
 
 #[allow(dead_code)]
 #[path = "../src/by_slot.rs"]
@@ -12,6 +15,8 @@ mod panel;
 #[allow(dead_code)]
 #[path = "../src/picture.rs"]
 mod picture;
+#[path = "../src/wording.rs"]
+mod wording;
 
 use std::env;
 use std::fs::{self, File};
@@ -38,13 +43,12 @@ fn file(name: &str) -> PathBuf {
     Path::new(env!("CARGO_TARGET_TMPDIR")).join(name)
 }
 
-/// The page that the program writes of a file in the folder of the arenas.
-fn written(command: &str, arena: &str, out: &str) -> String {
+/// The page that the program writes of files in the folder of the arenas.
+fn written(command: &[&str], out: &str) -> String {
     let out = file(out);
     let _ = fs::remove_file(&out);
-    let arguments = [command.as_ref(), arena.as_ref(), "--html".as_ref(), out.as_os_str()];
-    let ran =
-        Command::new(env!("CARGO_BIN_EXE_checker")).args(arguments).current_dir(arenas()).output().unwrap();
+    let mut program = Command::new(env!("CARGO_BIN_EXE_checker"));
+    let ran = program.args(command).arg("--html").arg(&out).current_dir(arenas()).output().unwrap();
     assert!(ran.stderr.is_empty(), "{}", String::from_utf8_lossy(&ran.stderr));
     fs::read_to_string(out).unwrap()
 }
@@ -114,7 +118,8 @@ fn column(page: &str, name: &str) -> Vec<u32> {
 
 #[test]
 fn the_page_loads_nothing() {
-    for page in [written("check", "broken.txt", "nothing.html"), html::page(&[panel("one", one_chain(9))])] {
+    for page in [written(&["check", "broken.txt"], "nothing.html"), html::page(&[panel("one", one_chain(9))])]
+    {
         let policy = "http-equiv=\"Content-Security-Policy\" content=\"default-src 'none'; ";
         assert_eq!(page.matches(policy).count(), 1);
         for word in ["http:", "https:", "src=", "@import", "url(", "<link", "<iframe", "import(", "fetch("] {
@@ -125,13 +130,13 @@ fn the_page_loads_nothing() {
 
 #[test]
 fn the_same_arena_gives_the_same_page() {
-    let [one, two] = ["same1.html", "same2.html"].map(|out| written("check", "whole.txt", out));
+    let [one, two] = ["same1.html", "same2.html"].map(|out| written(&["check", "whole.txt"], out));
     assert!(one == two);
 }
 
 #[test]
 fn every_word_of_every_slot_is_in_the_page() {
-    let page = written("check", "whole.txt", "words.html");
+    let page = written(&["check", "whole.txt"], "words.html");
     let text = fs::read_to_string(arenas().join("whole.txt")).unwrap();
     let lines = text.lines().filter(|line| line.starts_with(|first: char| first.is_ascii_digit()));
     let rows: Vec<Vec<u32>> =
@@ -153,15 +158,72 @@ fn every_word_of_every_slot_is_in_the_page() {
         "<dt>Free slots</dt><dd>2</dd>",
         "<dt>Capacity</dt><dd>10</dd>",
         "<p class=\"verdict passes\">passes the check</p>",
-        "generation=3\">3</a> (1 link)",
+        "<p class=\"generations\">Other generations: <a href=\"#panel=1&amp;generation=2\">2</a> (1 link), \
+         <a href=\"#panel=1&amp;generation=3\">3</a> (1 link), \
+         <a href=\"#panel=1&amp;generation=4\">4</a> (1 link)</p>",
     ] {
         assert!(page.contains(fact), "{fact}");
     }
 }
 
 #[test]
+fn columns_are_as_wide_as_their_largest_word() {
+    for (payload, width) in
+        [(0, 1), (0xff, 1), (0x100, 2), (0xffff, 2), (0x1_0000, 4), (0x1_ffff, 4), (u32::MAX, 4)]
+    {
+        let arena = OwnedArena { payload: vec![7, payload, 1], ..one_chain(3) };
+        let page = html::page(&[panel("wide", arena)]);
+        assert!(page.contains(&format!("\"payload\":[{width},")), "{payload}");
+        assert_eq!(column(&page, "payload"), [7, payload, 1]);
+    }
+}
+
+/// The texts of a class in each panel of a page.
+#[cfg(feature = "level-three")]
+fn said<'p>(page: &'p str, class: &str) -> Vec<Vec<&'p str>> {
+    let start = format!("<p class=\"verdict {class}\">");
+    let texts =
+        |panel: &'p str| panel.split(&start).skip(1).map(|text| text.split('<').next().unwrap()).collect();
+    page.split("<section ").skip(1).map(texts).collect()
+}
+
+#[cfg(feature = "level-three")]
+#[test]
+fn the_verdict_of_a_comparison_stands_in_both_panels() {
+    let page = written(&["compare", "whole.txt", "changed.txt"], "changed.html");
+    let a = [
+        "does not hold the same chains as B: 2 chains are only in A",
+        "the first only in A and the chain of B that begins most like it part at place 3: \
+         the way back to old slot 2 in A, the end in B",
+        "canonically compressed, they first differ at slot 4: prev 5 in A, 0 in B",
+    ];
+    let b = "does not hold the same chains as A: 2 chains are only in B";
+    assert_eq!(said(&page, "told"), [a.to_vec(), vec![b]]);
+    assert_eq!(page.matches("<h3>Slots without a partner: 3</h3>").count(), 2);
+    assert!(page.contains("<li><b>4</b> its chain, slots 4 to 5, has no partner in B</li>"));
+    let page = written(&["compare", "whole.txt", "renamed.txt"], "renamed.html");
+    let same =
+        |other| vec![format!("passes the check and holds the same chains as {other}, in another order")];
+    assert_eq!(said(&page, "passes"), [same("B"), same("A")]);
+    assert_eq!((page.matches("<h3>").count(), page.matches("class=\"verdict told\"").count()), (0, 0));
+    let page = written(&["compare", "broken.txt", "whole.txt"], "refused.html");
+    assert_eq!(said(&page, "passes"), [vec![], vec!["passes the check"]]);
+    assert_eq!(said(&page, "refused").iter().map(Vec::len).collect::<Vec<_>>(), [1, 0]);
+    assert_eq!(said(&page, "told"), [["not compared"], ["not compared"]]);
+    assert!(page.contains("title-1\">A: broken.txt</h2>") && page.contains("title-2\">B: whole.txt</h2>"));
+}
+
+#[cfg(feature = "level-three")]
+#[test]
+fn a_page_around_a_free_slot_shows_all_of_the_compression() {
+    let page = written(&["compress", "whole.txt", "--around", "6"], "around_free.html");
+    assert!(page.contains("title-2\">whole.txt, canonically compressed</h2>"));
+    assert_eq!((page.matches("\"around\":6").count(), page.matches("\"around\":0").count()), (1, 1));
+}
+
+#[test]
 fn a_broken_arena_says_why_without_a_script() {
-    let page = written("check", "broken.txt", "why.html");
+    let page = written(&["check", "broken.txt"], "why.html");
     let sentence = "slot 1: its next is 2, but the prev of slot 2 is 4, not 1";
     let verdict =
         format!("<p class=\"verdict refused\">refused with 11: {sentence} (2 faults at 2 slots)</p>");
@@ -191,10 +253,12 @@ fn a_large_arena_makes_a_small_page_quickly() {
 
 #[test]
 fn what_must_be_told_of_an_arena_that_passes_is_no_refusal() {
-    let sentence = Some("the generation overflowed".to_string());
-    let page = html::page(&[Panel { sentence, ..panel("told", one_chain(2)) }]);
+    let told = vec!["the generation overflowed".to_string(), "and more".to_string()];
+    let page = html::page(&[Panel { told, ..panel("told", one_chain(2)) }]);
     assert!(page.contains("<p class=\"verdict passes\">passes the check</p>\n"));
-    assert!(page.contains("<p class=\"verdict told\">the generation overflowed</p>"));
+    assert!(page.contains(
+        "<p class=\"verdict told\">the generation overflowed</p>\n<p class=\"verdict told\">and more</p>"
+    ));
     assert!(!page.contains("verdict refused"));
 }
 
@@ -279,6 +343,8 @@ const list = (panel) => panels[panel - 1].querySelector('.list');
 const key = (node, key, shiftKey = false) => node.dispatchEvent(new KeyboardEvent('keydown', { key, shiftKey, bubbles: true, cancelable: true }));
 const found = () => document.getElementById('found').textContent;
 const look = (text, by) => { document.getElementById('wanted').value = text; document.getElementById('by').value = by; document.getElementById('search').requestSubmit(); };
+const go = (fragment) => { location.hash = fragment; dispatchEvent(new HashChangeEvent('hashchange')); };
+const card = (panel, part) => panels[panel - 1].querySelector(`.card ${part}`);
 const noted = [];
 const note = (what) => { noted.push(what); document.body.dataset.noted = noted.join('; '); };
 ";
@@ -301,7 +367,7 @@ fn compared_arenas_are_followed_by_slot() {
     let [mut a, b] = [compared("A", vec![3, 2, 1]), compared("B", vec![2, 1, 3])];
     a.around = Some(2);
     let page = html::page(&[a, b]);
-    assert_eq!(page.matches("<h3>Differences: 1</h3>").count(), 2);
+    assert_eq!(page.matches("<h3>Slots without a partner: 1</h3>").count(), 2);
     let steps = "
 note(chosen());
 box(2, 3).click(); note(chosen()); note(box(1, 1).querySelector('.tie').textContent);
@@ -315,9 +381,13 @@ note(panels.map((panel) => panel.querySelector('.card .faulty').textContent).joi
 #[cfg(feature = "level-three")]
 #[test]
 fn a_compression_is_followed_side_by_side() {
-    let page = written("compress", "whole.txt", "followed.html");
+    let page = written(&["compress", "whole.txt"], "followed.html");
     let steps = "
+note(chosen()); note(found());
+note([...list(1).querySelectorAll('.end')].map((end) => end.textContent).join(' '));
 box(1, 5).click(); note(chosen());
+note([box(1, 5), box(1, 1)].map((box) => getComputedStyle(box).outlineStyle).join(' '));
+note([box(1, 5), box(2, 2)].map((box) => box.querySelector('.tie').textContent).join(' '));
 panels[0].querySelector('.card .next').click(); note(chosen());
 key(list(2), 'ArrowLeft'); note(chosen());
 key(list(1), 'Home'); note(chosen());
@@ -331,18 +401,33 @@ key(document.getElementById('wanted'), 'Enter', true); note(found());
 look('0xffffffff', 'payload'); note(chosen()); note(found());
 look('77', 'any'); note(found());
 look('10', 'slot'); note(found());
+look('10', 'any'); note(found());
+look('99999999999999999999', 'payload'); note(found());
 look('x', 'slot'); note(found());
 look('5', 'generation'); note(found());
+go('#panel=1&generation=5'); note(found());
+document.getElementById('search').requestSubmit(); note(found());
+key(document.getElementById('wanted'), 'Enter', true); note(found());
+go('#generation=6'); note(found());
+go('#payload=700'); note(chosen()); note(found());
+go('#panel=2&slot=99'); note(chosen()); note(found());
 box(1, 8).click(); note(chosen()); note(location.hash);
 key(document.body, '/'); note(document.activeElement.id);
 note(panels[0].querySelector('.card dl').textContent);
 box(2, 2).click(); note(panels.map((panel) => panel.querySelector('.card dl').textContent).join(' / '));
 ";
-    let Some(document) = browsed("compression", &page, "", &format!("{TOOLS}{steps}")) else { return };
+    let Some(document) = browsed("compression", &page, "#panel=2&slot=4", &format!("{TOOLS}{steps}")) else {
+        return;
+    };
     assert_eq!(
         noted(&document),
         [
+            "4/4",
+            "",
+            "back to2 back to7 root itself",
             "5/2",
+            "solid none",
+            "to 2 from 5",
             "3/3",
             "5/2",
             "1/1",
@@ -359,8 +444,18 @@ box(2, 2).click(); note(panels.map((panel) => panel.querySelector('.card dl').te
             "1 of 1 hit: payload of slot 9 in whole.txt",
             "Not found: no slot and no link with payload 77.",
             "Slot 10 is above the stack.",
+            "Slot 10 is above the stack, and no link has payload 10.",
+            "Not found: no link with payload 99999999999999999999.",
             "Type a number, such as 50 or 0x32.",
             "1 of 4 hits: generation of slot 1 in whole.txt",
+            "1 of 4 hits: generation of slot 1 in whole.txt",
+            "2 of 4 hits: generation of slot 2 in whole.txt",
+            "1 of 4 hits: generation of slot 1 in whole.txt",
+            "1 of 7 hits: generation of slot 1 in whole.txt, canonically compressed",
+            "7/6",
+            "1 of 1 hit: payload of slot 7 in whole.txt",
+            "7/6",
+            "Not found: no slot 99.",
             "8/0",
             "#panel=1&amp;slot=8",
             "wanted",
@@ -373,51 +468,75 @@ box(2, 2).click(); note(panels.map((panel) => panel.querySelector('.card dl').te
 
 #[test]
 fn wrong_pointers_and_free_slots_are_shown() {
-    // 7 names 12 and 5, the freelist 8 -> 6 leads to 70, and 9 is free but not on it.
+    // 7 names 12 and 5, the freelist 8 -> 6 leads to 70, and 9 is free but not on it. The prev of 8 means nothing.
     let mut arena = linked(9, |slot| {
-        [(0, 5), (4, 4), (5, 0), (2, 2), (1, 3), (0, 70), (12, 5), (0, 6), (0, 9)][slot as usize - 1]
+        [(0, 5), (4, 4), (5, 0), (2, 2), (1, 3), (0, 70), (12, 5), (3, 6), (0, 9)][slot as usize - 1]
     });
     (arena.generation[5], arena.generation[7], arena.generation[8]) = (0, 0, 0);
     arena.header = vec![9, 6, 8, 5];
-    let compared = panel("compared", one_chain(7));
+    // The header's stack is longer than the columns, and the last slot leads to between.
+    let mut compared = panel("compared", one_chain(7));
+    (compared.arena.header[0], compared.arena.next[6]) = (20, 12);
     let mut broken = panel("a</script><b>\u{2028}", arena);
-    broken.sentence = Some("refused".to_string());
+    broken.passes = false;
+    broken.verdict = "refused".to_string();
     broken.faults = [6, 7].map(|slot| Fault { slot, sentence: format!("slot {slot} is wrong") }).to_vec();
     let steps = "
+note(chosen()); note(found());
+const colour = (node) => getComputedStyle(node).color;
+const wrong = colour(document.querySelector('.end.wrong'));
+const red = () => ['.prev', '.next'].map((side) => colour(card(1, side)) === wrong).join(' ');
 note(document.querySelector('h2').textContent);
-note([...document.querySelectorAll('.end.wrong')].map((end) => end.textContent).join(' '));
-note([...document.querySelectorAll('.box.free')].map((box) => box.dataset.slot).join(' '));
+note([...list(1).querySelectorAll('.end.wrong')].map((end) => end.textContent).join(' '));
+note([...list(1).querySelectorAll('.box.free')].map((box) => box.dataset.slot).join(' '));
 note([...document.querySelectorAll('.box.broken')].map((box) => box.dataset.slot).join(' '));
 note([...list(1).querySelectorAll('h3')].map((heading) => heading.textContent).join(', '));
 key(document.querySelector('.faults'), 'ArrowDown'); note(chosen());
+note(card(1, '.next').textContent); note(red());
 key(document.querySelector('.faults'), 'ArrowDown'); note(chosen());
+note(card(2, '.next').textContent); note(red());
 key(document.querySelector('.faults'), 'ArrowDown'); note(chosen());
 key(list(1), 'ArrowLeft'); note(chosen());
 note(document.querySelector('.card .prev').textContent);
 note(document.querySelector('.card .faulty').textContent);
 document.querySelector('.end.leads').click(); note(chosen());
 document.querySelector('.fault').click(); note(chosen());
+box(1, 5).click(); note(red());
+box(1, 8).click(); note(card(1, '.prev').textContent); note(red());
+key(list(1), 'ArrowLeft'); card(1, '.prev').click(); note(chosen());
 box(1, 9).click(); note(chosen());
 note(document.querySelector('noscript').childElementCount);
 ";
     let page = html::page(&[broken, compared]);
-    let Some(document) = browsed("broken", &page, "", &format!("{TOOLS}{steps}")) else { return };
+    let Some(document) = browsed("broken", &page, "#payload=0x20002", &format!("{TOOLS}{steps}")) else {
+        return;
+    };
     assert_eq!(
         noted(&document),
         [
+            "2/2",
+            "1 of 2 hits: payload of slot 2 in a&lt;/script&gt;&lt;b&gt;\u{fffd}",
             "a&lt;/script&gt;&lt;b&gt;\u{fffd}",
             "prev12 next5 next70",
             "8 6 9",
             "7 6",
             "Open chains2, Closed chains1, Freelist2, Free, not on the freelist1",
             "6/6",
+            "next70 above the stack",
+            "false true",
             "7/7",
+            "next12 not in the columns",
+            "true true",
             "7/7",
             "7/7",
             "prev12 above the stack",
             "slot 7 is wrong",
             "5/5",
             "6/6",
+            "false false",
+            "prevnone",
+            "false false",
+            "8/0",
             "9/0",
             "0",
         ]
@@ -442,6 +561,11 @@ for (let panel = 1; panel <= 5; panel++) { list(panel).scrollTop = 1e9; list(pan
 for (let panel = 1; panel <= 5; panel++) note(box(panel, 65535) !== null);
 note(panels.every((panel) => panel.querySelectorAll('.box').length < 300));
 for (let panel = 1; panel <= 5; panel++) { look('40000', 'slot'); note(chosen()); note(box(panel, 40000).classList.contains('chosen')); }
+views[4].print();
+note(list(5).querySelectorAll('.line').length);
+const [, from, to, all] = list(5).querySelector('.cut').textContent.match(/^Lines (\\d+) to (\\d+) of (\\d+) are printed.$/).map(Number);
+note(to - from); note(all > 5000);
+const line = [...list(5).querySelectorAll('.line')].indexOf(box(5, 40000).parentNode); note(line);
 ";
     let page = html::page(&panels);
     let Some(document) = browsed("large", &page, "#slot=60000", &format!("{TOOLS}{steps}")) else { return };
@@ -450,5 +574,76 @@ for (let panel = 1; panel <= 5; panel++) { look('40000', 'slot'); note(chosen())
     for chosen in ["40000/0/0/0/0", "0/40000/0/0/0", "0/0/40000/0/0", "0/0/0/40000/0", "0/0/0/0/40000"] {
         expected.extend([chosen, "true"]);
     }
+    expected.extend(["300", "299", "true", "150"]);
     assert_eq!(noted(&document), expected);
+}
+
+/// A list of every part, longer than the window: its buttons, its order, its place after a new layout, and its print.
+#[test]
+fn a_long_list_is_scrolled_laid_out_and_printed() {
+    // A chain, a closed one, lone links and the freelist, of 300 slots each.
+    let mut arena = linked(1200, |slot| match (slot - 1) / 300 {
+        0 => (slot - 1, if slot == 300 { 0 } else { slot + 1 }),
+        1 => (if slot == 301 { 600 } else { slot - 1 }, if slot == 600 { 301 } else { slot + 1 }),
+        2 => (0, 0),
+        _ => (0, slot.min(1199) + 1),
+    });
+    arena.generation[900..].fill(0);
+    arena.header = vec![1200, 900, 901, 5];
+    let sentence = "its chain, slots 60000 to 65000, has no partner in B";
+    let fault = |slot| Fault { slot, sentence: [sentence; 3][..slot as usize % 3 + 1].join(", and ") };
+    let long = Panel { faults: (1..=40).map(fault).collect(), ..panel("long", arena) };
+    let page = html::page(&[long]);
+    let steps = "
+const scroll = (top) => { list(1).scrollTop = top; list(1).dispatchEvent(new Event('scroll')); };
+const lay = () => dispatchEvent(new Event('afterprint'));
+const lines = () => [...list(1).querySelectorAll('.space > *')];
+const tops = () => lines().map((line) => parseFloat(line.style.top));
+const upper = () => list(1).getBoundingClientRect().top;
+const seen = () => lines().find((line) => line.getBoundingClientRect().bottom > upper() + 3);
+for (const button of document.querySelectorAll('nav button:not([hidden])')) {
+  button.click(); list(1).dispatchEvent(new Event('scroll'));
+  note(`${button.textContent} ${seen().textContent}`);
+}
+scroll(2500); scroll(2300); scroll(2400); note(tops().every((top, k, all) => k === 0 || all[k - 1] < top)); note(tops().length > 10);
+const slot = Number(seen().querySelector('.box').dataset.slot);
+const few = lines().length;
+panels[0].style.width = '420px'; lay();
+note(Number(seen().querySelector('.box').dataset.slot) <= slot && slot <= Number([...seen().querySelectorAll('.box')].at(-1).dataset.slot));
+const linesIn = (node) => { const text = document.createRange(); text.selectNodeContents(node); return text.getClientRects().length; };
+let [low, high] = [0, 0];
+for (let width = 340; width < 520; width += 6) {
+  panels[0].style.width = `${width}px`; lay();
+  const spare = [...document.querySelectorAll('.fault')].map((fault) => Math.round(fault.offsetHeight / 24) - linesIn(fault.lastChild));
+  low += spare.some((lines) => lines < 0); high += spare.some((lines) => lines > 0);
+}
+note(low); note(high < 5 || high);
+dispatchEvent(new Event('beforeprint'));
+const printed = [...list(1).querySelectorAll('.box')].map((box) => Number(box.dataset.slot));
+note(printed.length); note(new Set(printed).size); note(document.querySelectorAll('.fault').length);
+note(document.querySelectorAll('.cut').length);
+lay(); note(Math.abs(lines().length - few) < 10); note(document.querySelectorAll('.spread').length);
+";
+    let Some(document) = browsed("long", &page, "", &format!("{TOOLS}{steps}")) else { return };
+    assert_eq!(
+        noted(&document),
+        [
+            "Open chains1 Open chains1",
+            "Lone links300 Lone links300",
+            "Closed chains1 Closed chains1",
+            "Freelist300 Freelist300",
+            "true",
+            "true",
+            "true",
+            // No line is too low for its sentence at any of thirty widths, and at few of them one is too high.
+            "0",
+            "true",
+            "1200",
+            "1200",
+            "40",
+            "0",
+            "true",
+            "0",
+        ]
+    );
 }

@@ -112,6 +112,43 @@ fn the_chain_of_a_slot_is_shown_alone() {
         let message = format!("whole.txt: slot {slot} is not on the stack, whose length is 9\n");
         assert_eq!((ran.stdout, ran.stderr, ran.status), (String::new(), message, 2));
     }
+    let short = changed(&[("header 5 4 3 5", "header 8 4 3 5")]);
+    for (slot, message) in [
+        ("8", "short.txt: there is no slot 8, since the columns have only 5 slots\n"),
+        ("9", "short.txt: slot 9 is not on the stack, whose length is 8\n"),
+    ] {
+        let (ran, _) = on_text("check", "short.txt", short.as_bytes(), &["--around", slot]);
+        assert_eq!((ran.stdout.as_str(), ran.stderr.as_str(), ran.status), ("", message, 2));
+    }
+}
+
+#[test]
+fn rows_with_a_wrong_pointer_to_the_chain_of_a_slot_are_shown() {
+    // 3 names 1 as its prev and 4 names 2 as its next, but 1 -> 2 names neither; 5 and 6 have nothing to do with them.
+    let text = b"header 6 6 0 5\n1 0 2 5 0\n2 1 0 5 0\n3 1 0 5 0\n4 0 2 5 0\n5 0 6 5 0\n6 5 0 5 0\n";
+    for (slot, own) in [("1", "[1] -> 2"), ("2", "1 -> [2]")] {
+        let (ran, _) = on_text("check", "joined.txt", text, &["--around", slot]);
+        let rows: Vec<&str> = ran.stdout.lines().filter(|line| line.starts_with("  open ")).collect();
+        let own = format!("  open    {own}");
+        assert_eq!(rows, [own.as_str(), "  open    (prev 1 is wrong) 3", "  open    4 -> (2 is wrong)"]);
+    }
+}
+
+#[test]
+fn counts_agree_with_their_nouns() {
+    for (text, counts) in [
+        (
+            "header 2 1 1 5\n1 0 1 0 0\n2 0 0 5 5",
+            "1 link on 1 open and 0 closed chains, 1 free slot, room for 2 slots",
+        ),
+        ("header 1 1 0 5\n1 1 1 5 5", "1 link on 0 open and 1 closed chain, 0 free slots, room for 1 slot"),
+    ] {
+        let (ran, _) = on_text("check", "counts.txt", text.as_bytes(), &[]);
+        assert_eq!(
+            ran.stdout.lines().next(),
+            Some(format!("counts.txt: passes the check: {counts}").as_str())
+        );
+    }
 }
 
 #[cfg(feature = "level-three")]
@@ -176,9 +213,58 @@ fn what_differs_is_drawn() {
     assert_eq!(picture.matches("class=\"title\"").count(), 2);
     // The closed chain from slot 4 to slot 5 of A is open in B, and the payload of slot 6 is another.
     assert_eq!(drawn_broken(&picture), ["4", "5", "6", "4", "5", "6"]);
-    let ran = checker(&["compare", "whole.txt", "renamed.txt", "--svg", word(&out)]);
-    assert_eq!(ran.status, 0);
-    assert!(drawn_broken(&fs::read_to_string(&out).unwrap()).is_empty());
+    let [a, b] = panels(&picture);
+    for (panel, other) in [(a, "B"), (b, "A")] {
+        let title = |slots| format!("<title>its chain, {slots}, has no partner in {other}</title>");
+        assert_eq!(panel.matches(&title("slots 4 to 5")).count(), 2);
+        assert_eq!(panel.matches(&title("slot 6")).count(), 1);
+    }
+    let said = [
+        "passes the check",
+        "does not hold the same chains as B: 2 chains are only in A",
+        "the first only in A and the chain of B that begins most like it part at place 3: \
+         the way back to old slot 2 in A, the end in B",
+        "canonically compressed, they first differ at slot 4: prev 5 in A, 0 in B",
+    ];
+    assert_eq!(verdicts(a), said);
+    assert_eq!(verdicts(b), [said[0], "does not hold the same chains as A: 2 chains are only in B"]);
+}
+
+#[cfg(feature = "level-three")]
+#[test]
+fn that_two_arenas_hold_the_same_is_drawn() {
+    let out = folder("same").join("out.svg");
+    for (other, order) in [("whole.txt", ""), ("renamed.txt", ", in another order")] {
+        let ran = checker(&["compare", "whole.txt", other, "--svg", word(&out)]);
+        let picture = fs::read_to_string(&out).unwrap();
+        assert_eq!((ran.status, drawn_broken(&picture).len()), (0, 0));
+        for (panel, label) in panels(&picture).into_iter().zip(["B", "A"]) {
+            assert_eq!(
+                verdicts(panel),
+                [format!("passes the check and holds the same chains as {label}{order}")]
+            );
+        }
+    }
+    let ran = checker(&["compare", "whole.txt", "broken.txt", "--svg", word(&out)]);
+    let picture = fs::read_to_string(&out).unwrap();
+    let [a, b] = panels(&picture);
+    assert!(a.starts_with("A: whole.txt<") && b.starts_with("B: broken.txt<"));
+    assert_eq!((verdicts(a), ran.status), (vec!["passes the check", "not compared"], 1));
+    assert!(verdicts(b)[0].starts_with("refused with 11: ") && verdicts(b)[1] == "not compared");
+}
+
+/// The two panels of a picture, each from its title on.
+#[cfg(feature = "level-three")]
+fn panels(picture: &str) -> [&str; 2] {
+    let panels: Vec<&str> = picture.split("<text class=\"title\" x=\"20\" y=").skip(1).collect();
+    [panels[0], panels[1]].map(|panel| panel.split_once('>').unwrap().1)
+}
+
+/// What is said of a panel below its title.
+#[cfg(feature = "level-three")]
+fn verdicts(panel: &str) -> Vec<&str> {
+    let lines = panel.lines().skip(1).take_while(|line| line.starts_with("<text "));
+    lines.map(|line| line.split_once('>').unwrap().1.split('<').next().unwrap()).collect()
 }
 
 #[cfg(feature = "level-three")]
@@ -273,16 +359,34 @@ fn what_is_read_is_not_written_over() {
         let message = format!("`--svg {out}` would write over standard input, which is read\n");
         assert_eq!((ran.stdout.as_str(), ran.stderr, ran.status), ("", message, 2));
     }
+    let ran = checker(&["compare", "whole.txt", word(&file), "--svg", word(&file)]);
+    let message = "would write over FILE, which is read\n".replace("FILE", word(&file));
+    assert!(ran.stderr.ends_with(&message) && ran.status == 2, "{}", ran.stderr);
     assert_eq!(fs::read(&file).unwrap(), text);
     let said = folder.join("said");
-    let mut run = program(&["check", "whole.txt", "--svg", word(&said)]);
-    let ran = ran(run.stdout(File::create(&said).unwrap()).output().unwrap());
-    assert_eq!(ran.status, 2);
-    assert!(
-        ran.stderr.ends_with("would write over standard output, which goes to that file\n"),
-        "{}",
-        ran.stderr
-    );
+    for option in ["--svg", "--html"] {
+        let mut run = program(&["check", "whole.txt", option, word(&said)]);
+        let ran = self::ran(run.stdout(File::create(&said).unwrap()).output().unwrap());
+        assert_eq!((ran.status, fs::read(&said).unwrap()), (2, Vec::new()));
+        assert!(
+            ran.stderr.ends_with("would write over standard output, which goes to that file\n"),
+            "{}",
+            ran.stderr
+        );
+    }
+}
+
+#[cfg(unix)]
+#[test]
+fn what_is_no_file_cannot_be_written_over() {
+    let null = "/dev/null";
+    let ran_quietly = |arguments: &[&str]| {
+        ran(program(arguments).stdin(Stdio::null()).stdout(Stdio::null()).output().unwrap())
+    };
+    let ran = ran_quietly(&["check", "whole.txt", "--svg", null]);
+    assert_eq!((ran.stderr.as_str(), ran.status), ("", 0));
+    let ran = ran_quietly(&["check", "-", "--svg", null]);
+    assert_eq!(ran.stderr, "standard input:1:1: found the end of the text, expected `header`\n");
 }
 
 #[cfg(target_os = "linux")]
@@ -373,12 +477,17 @@ fn a_parse_error_has_its_place_and_what_was_found() {
             "3:9: found `7`, expected `-`, since the payload column ended before slot 1",
         ),
         ("# \u{e9}\nheader \u{e9} 1".as_bytes(), &format!("2:8: found `\u{e9}`, {word_of_header}")),
+        ("header\u{a0}1\u{a0}x".as_bytes(), &format!("1:10: found `x`, {word_of_header}")),
         (b"header 1 1\n1 \xff", "2:3: found the byte 0xff, expected UTF-8 text"),
         (b"\xef\xbb\xbfhead", "1:1: found `head`, expected `header`"),
         (b"\xef\xbb\xbf\xef\xbb\xbfheader", r"1:1: found `\u{feff}header`, expected `header`"),
         (
             b"\xff\xfeh\x00",
             "1:1: found the byte 0xff, expected UTF-8 text; it seems to be UTF-16, save it as UTF-8",
+        ),
+        (
+            b"\xfe\xff\x00h",
+            "1:1: found the byte 0xfe, expected UTF-8 text; it seems to be UTF-16, save it as UTF-8",
         ),
     ];
     for (k, (text, expected)) in cases.iter().enumerate() {
@@ -415,8 +524,8 @@ fn changed(lines: &[(&str, &str)]) -> String {
 
 /// The slots that are drawn with a class: the first text of each such box.
 fn drawn_as<'p>(picture: &'p str, class: &str) -> Vec<&'p str> {
-    let boxes =
-        picture.split("<g class=\"slot").filter(|text| text.split('>').next().unwrap().contains(class));
+    let boxes = picture.split("<g class=\"slot").skip(1);
+    let boxes = boxes.filter(|text| text.split('>').next().unwrap().contains(class));
     boxes.map(|text| text.split("</text>").next().and_then(|text| text.rsplit('>').next()).unwrap()).collect()
 }
 
@@ -440,6 +549,7 @@ fn each_refusal_is_explained_and_its_slot_is_drawn_red() {
     let row = |from, to| changed(&[(from, to)]);
     let cases = [
         (1, header("header 5 4 3"), "the header has 3 words, but it must have 4", ""),
+        (1, header("header 5"), "the header has 1 word, but it must have 4", ""),
         (
             1,
             row("5 1 0 5 50", "5 1 0 5 -"),
@@ -449,8 +559,14 @@ fn each_refusal_is_explained_and_its_slot_is_drawn_red() {
         (2, header("header 5 4 3 1"), "the current generation is 1, but it must be at least 2", ""),
         (3, header("header 6 4 3 5"), "the stack length is 6, but the columns have only 5 slots", ""),
         (3, header("header 5 7 3 5"), "the link count is 7, but the columns have only 5 slots", ""),
-        (4, header("header 5 5 3 5"), "the link count is 5, but 4 of the stack's 5 slots are links", ""),
+        (4, header("header 5 5 3 5"), "the link count is 5, but the stack of 5 slots has 4 links", ""),
         (5, header("header 5 4 0 5"), "there is no freelist root, but slot 3 is free", "3"),
+        (
+            5,
+            two_free(3, 3).replace(" 3 3 5\n", " 3 0 5\n"),
+            "there is no freelist root, but slot 3 is free",
+            "3",
+        ),
         (5, "header 1 1 1 5\n1 0 0 5 10".to_string(), "the freelist root is 1, but no slot is free", "1"),
         (
             6,
@@ -480,6 +596,12 @@ fn each_refusal_is_explained_and_its_slot_is_drawn_red() {
         ),
         (10, two_free(3, 0), "the freelist ends at slot 3 after 1 of 2 free slots: slot 5 is not on it", "5"),
         (
+            10,
+            "header 3 0 1 5\n1 0 1 0 0\n2 0 3 0 0\n3 0 3 0 0".to_string(),
+            "the freelist ends at slot 1 after 1 of 3 free slots: slot 2 is not on it",
+            "2",
+        ),
+        (
             11,
             row("1 0 5 5 10", "1 6 5 5 10"),
             "slot 1: its prev is 6, which is above the stack length 5",
@@ -499,7 +621,6 @@ fn each_refusal_is_explained_and_its_slot_is_drawn_red() {
         assert_eq!(ran.stdout.lines().nth(1), Some(format!("  {why}").as_str()));
         assert_eq!((ran.stdout.lines().count(), ran.stderr.as_str(), ran.status), (2, "", 1));
         assert_eq!(drawn_broken(&picture).concat(), slot, "the red slot, where {why}");
-        let why = why.replace('\'', "&apos;");
         assert!(picture.contains(&format!(">refused with {number}: {why}</text>")));
     }
 }
@@ -608,6 +729,19 @@ fn a_large_arena_is_drawn_in_part() {
         assert!(picture.contains("The picture is cut: 600 of 65535 slots of the stack are drawn."));
         assert_eq!(picture.matches("<g class=\"slot\">").count(), 600);
     }
+    let (_, picture) = on_text("check", "just.txt", one_chain(600, false).as_bytes(), &[]);
+    assert!(!picture.contains("The picture is cut"));
+    let (_, picture) = on_text("check", "just.txt", one_chain(601, false).as_bytes(), &[]);
+    assert!(picture.contains("The picture is cut: 600 of 601 slots of the stack are drawn."));
+}
+
+#[test]
+fn a_wrong_root_is_drawn_however_large_the_arena() {
+    let text = one_chain(2000, false).replace("header 2000 2000 0 5", "header 2000 2000 70000 5");
+    let (ran, picture) = on_text("check", "root.txt", text.as_bytes(), &[]);
+    assert_eq!(ran.status, 1);
+    assert_eq!(picture.matches("<path class=\"wrong\"").count(), 1);
+    assert_eq!((picture.matches(">70000</text>").count(), picture.matches(">free</text>").count()), (2, 1));
 }
 
 #[test]
@@ -616,6 +750,8 @@ fn the_broken_slot_of_a_large_arena_is_drawn() {
     let (ran, picture) = on_text("check", "large_broken.txt", text.as_bytes(), &[]);
     assert_eq!(ran.status, 1);
     assert_eq!(drawn_broken(&picture), ["59999", "60000"]);
+    // The line with slot 59999 is the middle one of sixty.
+    assert!(picture.contains(">from place 59691</text>"));
     let (ran, _) = on_text(
         "check",
         "too_large.txt",
@@ -651,22 +787,28 @@ fn drawn_asked(picture: &str) -> Vec<&str> {
 fn the_header_and_other_generations_are_drawn() {
     let (_, picture) = on_text("check", "header.txt", &fs::read(arenas().join("whole.txt")).unwrap(), &[]);
     let cells: Vec<&str> = picture.split("<g class=\"cell\">").skip(1).collect();
-    let names = ["stack length", "link count", "root", "current generation", "capacity"];
+    let names = ["Stack length", "Link count", "Root", "Current generation", "Capacity"];
     for (cell, (name, word)) in cells.iter().zip(names.into_iter().zip(["9", "7", "8", "5", "10"])) {
         assert!(
             cell.contains(&format!(">{name}</text>")) && cell.contains(&format!(">{word}</text>")),
             "{cell}"
         );
     }
-    // Slots 5, 3 and 9 have other generations; that of every other link is 5.
+    // Slots 5, 3 and 9 have other generations; that of every other link is 5. All boxes are higher for that.
+    assert_eq!(
+        (picture.matches("height=\"55\" rx").count(), picture.matches("height=\"40\" rx").count()),
+        (9, 0)
+    );
     assert_eq!(cells.len(), 5);
     assert_eq!(picture.matches(">g ").count(), 3);
     assert!([2, 3, 4].iter().all(|generation| picture.contains(&format!(">g {generation}</text>"))));
-    let (_, picture) = on_text("check", "short.txt", b"header 5 4 3", &[]);
+    let (_, picture) = on_text("check", "ended.txt", changed(&[("5 1 0 5 50", "5 1 0 5 -")]).as_bytes(), &[]);
+    assert_eq!((picture.matches("height=\"40\" rx").count(), picture.matches(">missing<").count()), (5, 1));
+    let (_, picture) = on_text("check", "short_header.txt", b"header 5 4 3", &[]);
     assert_eq!((picture.matches("<g class=\"cell\">").count(), picture.matches(">missing<").count()), (5, 1));
     let (_, picture) = on_text("check", "long.txt", format!("header{}", " 7".repeat(900)).as_bytes(), &[]);
     assert_eq!(picture.matches("<g class=\"cell\">").count(), 9);
-    assert!(picture.contains(">word 7</text>") && picture.contains(">893</text>"));
+    assert!(picture.contains(">Word 7</text>") && picture.contains(">893</text>"));
 }
 
 #[test]
@@ -695,10 +837,26 @@ fn a_long_chain_is_drawn_around_a_slot() {
             assert_eq!(drawn_asked(&picture), [slot]);
             let drawn = picture.matches("<g class=\"slot").count();
             assert!((105..=110).contains(&drawn));
-            let note = format!("The picture is cut: {drawn} of 65535 slots of the chain are drawn.");
+            let note = format!("The picture is cut: {drawn} of 65535 slots are drawn.");
             assert!(picture.contains(&note));
+            // The line of the slot is the middle one, where there is room.
+            assert_eq!(picture.contains(">from place 39941</text>"), slot == "40000");
+            assert_eq!(picture.contains(">back to 1</text>"), closed && slot == "65535");
         }
     }
+}
+
+#[test]
+fn the_end_of_a_long_row_is_drawn_that_leads_to_the_chain_of_a_slot() {
+    // 200 names 202 as its next.
+    let text = one_chain(200, false)
+        .replace("header 200 200", "header 202 202")
+        .replace("\n200 199 0", "\n200 199 202");
+    let text = text + "201 0 202 5 0\n202 201 0 5 0\n";
+    let (_, picture) = on_text("check", "leads.txt", text.as_bytes(), &["--around", "201"]);
+    let drawn = drawn_as(&picture, "");
+    assert_eq!((drawn.len(), drawn[..4].to_vec(), drawn[111]), (112, vec!["201", "202", "91", "92"], "200"));
+    assert!(picture.contains("The picture is cut: 112 of 202 slots are drawn."));
 }
 
 #[cfg(feature = "level-three")]
@@ -707,8 +865,9 @@ fn the_chain_of_a_slot_is_drawn_before_and_after() {
     let text = fs::read(arenas().join("whole.txt")).unwrap();
     let (_, picture) = on_text("compress", "moved.txt", &text, &["--around", "2"]);
     assert_eq!((picture.matches("<g class=\"slot").count(), drawn_asked(&picture)), (4, vec!["2", "5"]));
+    // Slot 6 is free and gone afterwards, so that the other panel shows all.
     let (_, picture) = on_text("compress", "gone.txt", &text, &["--around", "6"]);
-    assert_eq!((picture.matches("<g class=\"slot").count(), drawn_asked(&picture)), (2, vec!["6"]));
+    assert_eq!((picture.matches("<g class=\"slot").count(), drawn_asked(&picture)), (2 + 7, vec!["6"]));
     let (ran, _) = on_text("compress", "away.txt", &text, &["--around", "10"]);
     assert_eq!((ran.stdout.as_str(), ran.status), ("", 2));
 }

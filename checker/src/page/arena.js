@@ -22,8 +22,8 @@ function words([width, text]) {
 /** An arena by slot, with its rows and faults. */
 class Arena {
   constructor(data) {
-    const { title, stack, capacity, root, current, follows, around } = data;
-    Object.assign(this, { title, stack, capacity, root, current, follows, around });
+    const { title, stack, stackLength, capacity, root, current, follows, around } = data;
+    Object.assign(this, { title, stack, stackLength, capacity, root, current, follows, around });
     this.columns = {};
     for (const name of ['prev', 'next', 'generation', 'payload']) {
       this.columns[name] = words(data[name]);
@@ -70,6 +70,11 @@ class Arena {
   /** Whether the stack has a slot. */
   has(slot) {
     return slot >= 1 && slot <= this.stack;
+  }
+
+  /** Whether the columns have a slot, but the header's stack has not. */
+  isAbove(slot) {
+    return slot > this.stackLength && slot <= this.capacity;
   }
 
   /** Whether a slot of the stack is a link. */

@@ -41,8 +41,8 @@ class Card {
     const button = this.buttons[side];
     const means = arena.isLink(slot) || (side === 'next' && arena.has(slot));
     const to = means ? arena.word(side, slot) : 0;
-    const above = to > arena.stack ? ' above the stack' : '';
-    button.replaceChildren(element('span', '', side), element('b', '', to === 0 ? 'none' : `${to}${above}`));
+    const beyond = to > arena.stackLength ? ' above the stack' : to > arena.stack ? ' not in the columns' : '';
+    button.replaceChildren(element('span', '', side), element('b', '', to === 0 ? 'none' : `${to}${beyond}`));
     button.classList.toggle('wrong', means && arena.isWrong(slot, side));
     button.setAttribute('aria-disabled', String(!arena.has(to)));
   }

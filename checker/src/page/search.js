@@ -42,23 +42,25 @@ function keepFragment(fragment) {
 }
 
 /** What is searched for, its hits, and which of them is shown. */
-const search = { wanted: '', hits: [], at: 0 };
+const search = { wanted: '', only: null, hits: [], at: 0 };
 
 /** Searches all arenas, or one; the same search again goes to the next hit. */
 function find(text, by, only = null, step = 1) {
-  const wanted = [text.trim(), by, only?.number].join(' ');
-  if (wanted === search.wanted && search.hits.length > 0) return goToHit(search.at + step);
+  const wanted = `${text.trim()} ${by}`;
+  // The search field cannot say that one arena alone is searched, so that it goes on with any search for the same.
+  const again = wanted === search.wanted && (!only || only === search.only);
+  if (again && search.hits.length > 0) return goToHit(search.at + step);
   const number = /^(0x[0-9a-f]+|[0-9]+)$/i.test(text.trim()) ? Number(text) : null;
   const searched = views.filter((view) => number !== null && (!only || view === only));
   const found = searched.flatMap((view) => hitsIn(view, number, by));
   for (const view of views) view.hits = new Set(found.filter((hit) => hit.view === view).map((hit) => hit.slot));
   const hits = found.filter((hit) => only || !isShownBefore(hit));
   hits.sort((one, two) => Number(two.by.startsWith('slot')) - Number(one.by.startsWith('slot')));
-  Object.assign(search, { wanted, hits, at: 0 });
+  Object.assign(search, { wanted, only, hits, at: 0 });
   document.body.dataset.hits = hits.length;
   if (hits.length > 0) return goToHit(0);
   for (const view of views) view.markAll();
-  tell(number === null ? 'Type a number, such as 50 or 0x32.' : notFound(number, by), true);
+  tell(number === null ? 'Type a number, such as 50 or 0x32.' : notFound(text.trim(), by, searched), true);
   return undefined;
 }
 
@@ -84,12 +86,12 @@ function isShownBefore({ view, slot, by }) {
   return view.before.hits.has(view.arena.whereFrom[slot - 1]);
 }
 
-/** What is said where nothing is found. */
-function notFound(number, by) {
-  const above = views.some((view) => number > view.arena.stack && number <= view.arena.capacity);
-  if (by === 'slot' && above) return `Slot ${number} is above the stack.`;
-  if (by === 'slot') return `Not found: no slot ${number}.`;
-  return `Not found: no ${by === 'any' ? 'slot and no link with payload' : `link with ${by}`} ${number}.`;
+/** What is said where nothing is found. The number stands in it as it was typed. */
+function notFound(typed, by, searched) {
+  const above = searched.some((view) => view.arena.isAbove(Number(typed)));
+  if (by === 'slot') return above ? `Slot ${typed} is above the stack.` : `Not found: no slot ${typed}.`;
+  if (by === 'any' && above) return `Slot ${typed} is above the stack, and no link has payload ${typed}.`;
+  return `Not found: no ${by === 'any' ? 'slot and no link with payload' : `link with ${by}`} ${typed}.`;
 }
 
 /** Shows a hit; after the last comes the first. */
@@ -118,7 +120,7 @@ function openFragment() {
   const view = views[Number(asked.get('panel')) - 1] ?? null;
   const slot = Number(asked.get('slot'));
   const by = ['payload', 'generation', 'slot'].find((name) => asked.has(name));
-  if (by === 'slot' && view) return view.arena.has(slot) && choose(view, slot);
+  if (by === 'slot' && view?.arena.has(slot)) return choose(view, slot);
   if (!by) return undefined;
   document.getElementById('wanted').value = asked.get(by);
   document.getElementById('by').value = by;
@@ -144,6 +146,8 @@ function listenToSearch() {
     event.preventDefault();
     find(wanted.value, by.value, null, -1);
   });
+  // What is typed anew is searched in all arenas.
+  for (const field of [wanted, by]) field.addEventListener('input', () => (search.wanted = ''));
   document.getElementById('hit-before').addEventListener('click', () => goToHit(search.at - 1));
   document.getElementById('hit-after').addEventListener('click', () => goToHit(search.at + 1));
   document.addEventListener('keydown', (event) => {

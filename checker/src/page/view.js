@@ -9,21 +9,43 @@ const PACKED_GAP = 8;
 const LEAST_HEIGHT = 200;
 /** How high a list is from which on buttons lead to its parts, in pixels. */
 const NAV_FROM = 480;
-/** A sentence as they are, by which letters are measured. */
-const SENTENCE = 'slot 60000: its next is 60001, but the prev of slot 60001 is 59998, not 60000';
 
-/** On how many lines a sentence stands, if so many letters stand on each. A longer word is broken. */
-function linesOf(sentence, letters) {
-  let [lines, used] = [1, 0];
-  for (const word of sentence.split(' ')) {
-    if (used > 0 && used + word.length > letters) {
-      lines += 1;
-      used = 0;
-    }
-    lines += Math.floor(word.length / letters);
-    used += word.length % letters + 1;
+/** The widths of letters in a font, each measured once, since there may be a sentence for each slot. */
+class Letters {
+  constructor({ fontSize, fontFamily }) {
+    this.pen = document.createElement('canvas').getContext('2d');
+    this.pen.font = `${fontSize} ${fontFamily}`;
+    this.widths = new Map();
   }
-  return lines;
+
+  /** How wide a word is. */
+  width(word) {
+    let width = 0;
+    for (const letter of word) width += this.widths.get(letter) ?? this.measure(letter);
+    return width;
+  }
+
+  /** Measures a letter. */
+  measure(letter) {
+    const { width } = this.pen.measureText(letter);
+    this.widths.set(letter, width);
+    return width;
+  }
+
+  /** On how many lines of a width a sentence stands. A longer word is broken. */
+  lines(sentence, width) {
+    let [lines, used] = [1, 0];
+    for (const word of sentence.split(' ')) {
+      const wide = this.width(word);
+      if (used > 0 && used + wide > width) {
+        lines += 1;
+        used = 0;
+      }
+      lines += Math.floor(wide / width);
+      used += wide % width + this.width(' ');
+    }
+    return lines;
+  }
 }
 
 /** A panel of the page: an arena with its list of slots, its list of broken slots, and the chosen slot. */
@@ -155,7 +177,7 @@ class View {
     const line = element('div', 'line first');
     const [gutter, box, arrow] = [element('div', 'gutter'), this.widestBox(), element('i', 'arrow')];
     const heading = element('h3', '', PARTS[0]);
-    const fault = this.drawFault({ fault: { slot: this.arena.stack, sentence: SENTENCE } });
+    const fault = this.drawFault({ fault: { slot: this.arena.faults.at(-1)?.slot ?? 0, sentence: 'slot' } });
     fault.classList.add('widest');
     line.append(gutter, box, arrow);
     this.list.space.append(line, heading);
@@ -170,10 +192,11 @@ class View {
       heading: Math.ceil(height(heading)),
       fault: height(fault),
       faultMargin: width(fault) - width(fault.lastChild),
-      letter: width(fault.lastChild) / SENTENCE.length,
+      letters: new Letters(getComputedStyle(fault)),
     };
     this.list.box.style.setProperty('--box-width', `${this.size.box}px`);
     this.list.box.style.setProperty('--box-height', `${this.size.line - LINE_GAP}px`);
+    this.faults.box.style.setProperty('--slot-width', `${width(fault.firstChild)}px`);
     for (const node of [line, heading, fault]) node.remove();
   }
 
@@ -231,10 +254,11 @@ class View {
 
   /** The lines of the broken slots, high enough for their sentences. */
   makeFaultLines() {
-    const { fault: height, faultMargin, letter } = this.size;
-    // Some letters are wider than others, so some room is left.
-    const letters = Math.max(8, Math.floor((this.width - faultMargin) / letter * 0.98));
-    return this.arena.faults.map((fault) => ({ fault, height: height * linesOf(fault.sentence, letters) }));
+    const { fault: height, faultMargin, letters } = this.size;
+    const width = printing ? this.width : this.faults.space.clientWidth;
+    // A browser may set letters a little wider than it measures them, so some room is left; and a line is never too narrow.
+    const room = Math.max(60, (width - faultMargin) * 0.995);
+    return this.arena.faults.map((fault) => ({ fault, height: height * letters.lines(fault.sentence, room) }));
   }
 
   /** Draws a line of the list. */
