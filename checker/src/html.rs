@@ -306,7 +306,7 @@ mod tests {
         let title = "<h2 id=\"title-1\">@@data@@</h2>";
         assert!(page(&[panel("@@data@@", OwnedArena::empty(1))]).contains(title));
         for (arena, words) in [
-            (OwnedArena::default(), "<dt>Root</dt><dd>missing</dd>"),
+            (odd([0; 4], vec![]), "<dt>Root</dt><dd>missing</dd>"),
             (odd([3, 2, 1, 0], vec![3]), "<dt>Stack length</dt><dd>3</dd>"),
             (odd([0, 1, 2, 3], vec![9, 9]), "<dt>Link count</dt><dd>9</dd>"),
             (odd([2; 4], (0..20).collect()), "<dd>4, 5, 6, 7, 8, 9, 10, 11 and 8 more</dd>"),

@@ -234,10 +234,8 @@ fn every_field_of_a_statement_is_weakened_by_an_edit() {
         for (field, of, line) in statements {
             // what a field says may be said by an abbreviation of the same file
             let said = format!("{} ", of.split(' ').next().unwrap());
-            let abbreviated = text
-                .lines()
-                .filter(|other| other.starts_with(&said) && other.contains(" = "))
-                .any(|other| edited(other));
+            let abbreviated =
+                text.lines().filter(|other| other.starts_with(&said) && other.contains(" = ")).any(edited);
             assert!(edited(line) || abbreviated, "no edit weakens {}.{field}", record.name);
         }
     }
