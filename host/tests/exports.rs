@@ -6,10 +6,7 @@ use std::fs;
 use std::path::{Path, PathBuf};
 use std::process::Command;
 
-#[path = "../levels.rs"]
-mod levels;
-
-use levels::{LEVELS, Level};
+use crate::sold::{LEVELS, Level};
 
 /// What a compiler may call to copy, fill and compare memory.
 const COPYING: [&str; 5] = ["bcmp", "memcmp", "memcpy", "memmove", "memset"];

@@ -87,7 +87,7 @@ fn all_steps() -> Vec<(String, bool)> {
         let options = format!(
             "-p chain_arena --profile quick --no-default-features --features {levels} --offline --quiet"
         );
-        let tests = "test --test wrapper --test exports --test header";
+        let tests = "test --test levels";
         [tests, "test --doc", "doc --no-deps"].map(|what| format!("cargo {what} {options}"))
     };
     let proving =

@@ -1,12 +1,6 @@
 //! include/chain_arena.h declares the calls as the archives have them: every_call.c makes each one and prints every word that it answers and leaves. Any two
 //! arguments of one type, exchanged, are seen in what it prints, and so are any two fields of a result. The README's example for C is tried too.
 
-#![cfg(any(feature = "level-one", feature = "level-two", feature = "level-three"))]
-
-#[expect(dead_code, reason = "the options of a C program stand below")]
-#[path = "../levels.rs"]
-mod levels;
-
 use std::path::{Path, PathBuf};
 use std::process::{Command, Output};
 use std::sync::LazyLock;
@@ -80,7 +74,7 @@ fn a_c_program_makes_every_call() {
     let linked = LEVELS.iter().filter(|(linked, ..)| *linked);
     let expected: String = linked.map(|(_, _, printed)| *printed).collect();
     assert_eq!(calls().into_iter().map(|(_, lines)| lines).collect::<String>(), expected);
-    let linked = levels::LEVELS.iter().zip(&LEVELS).filter(|(_, (linked, ..))| *linked);
+    let linked = crate::sold::LEVELS.iter().zip(&LEVELS).filter(|(_, (linked, ..))| *linked);
     let exports: Vec<&str> = linked.flat_map(|(level, _)| level.exports).copied().collect();
     assert_eq!(calls().iter().map(|(name, _)| format!("chain_arena_{name}")).collect::<Vec<_>>(), exports);
 }

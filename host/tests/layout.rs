@@ -9,10 +9,7 @@ use std::collections::BTreeSet;
 use std::fs;
 use std::path::{Path, PathBuf};
 
-#[path = "../levels.rs"]
-mod levels;
-
-use levels::{LEVELS, Level};
+use crate::sold::{LEVELS, Level};
 
 /// A parameter or a field: its name, and its type as Rust has it.
 type Place = (String, String);

@@ -7,9 +7,6 @@ use std::path::Path;
 
 use chain_arena::RefusalKind;
 
-#[path = "../levels.rs"]
-mod levels;
-
 /// A row of the table: number, name as C has it, meaning, and which calls.
 type Row = (u32, String, String, String);
 
@@ -232,7 +229,7 @@ fn each_method_tells_the_numbers_of_its_call() {
     let own: Vec<Row> =
         told("docs/REFERENCE.md").into_iter().filter(|row| (12..100).contains(&row.0)).collect();
     let calls =
-        levels::LEVELS.iter().flat_map(|level| level.exports.iter().map(move |export| (level, export)));
+        crate::sold::LEVELS.iter().flat_map(|level| level.exports.iter().map(move |export| (level, export)));
     assert_eq!(calls.clone().count(), ORDER.len());
     for ((level, export), (call, order)) in calls.zip(ORDER) {
         assert_eq!(export.strip_prefix("chain_arena_"), Some(call));

@@ -4,10 +4,7 @@ use std::collections::BTreeSet;
 use std::fs;
 use std::path::{Path, PathBuf};
 
-#[path = "../levels.rs"]
-mod levels;
-
-use levels::LEVELS;
+use crate::sold::LEVELS;
 
 /// Every document.
 fn documents() -> Vec<PathBuf> {
