@@ -88,6 +88,16 @@ pub struct DrainResult {
     pub overflowed: u32,
 }
 
+/// The pointer of a link that was inserted.
+#[repr(C)]
+#[derive(Clone, Copy, Debug, PartialEq, Eq)]
+pub struct InsertResult {
+    pub number: u32,
+    pub broken: u32,
+    pub slot: u32,
+    pub generation: u32,
+}
+
 // Level One
 #[cfg(feature = "level-one")]
 #[rustfmt::skip]
@@ -176,6 +186,16 @@ unsafe extern "C" {
         p0_slot: u16, p0_generation: u32, p1_slot: u16, p1_generation: u32,
     ) -> PlainResult;
 
+    /// Inserts a link with a payload where the kind says, 6 to 19, and answers its pointer. p and q are what the kind names: both,
+    /// p alone, or none; the generations are read by kinds that name pointers. 16: there is no such kind; 17: what it asks does
+    /// not hold; 18: there is no room.
+    pub fn chain_arena_insert(
+        prev: *mut u16, prev_len: usize, next: *mut u16, next_len: usize,
+        generation: *mut u32, generation_len: usize, payload: *mut u32, payload_len: usize,
+        header: *mut u32, header_len: usize,
+        kind: u32, p_slot: u16, p_generation: u32, q_slot: u16, q_generation: u32, new_payload: u32,
+    ) -> InsertResult;
+
     /// Takes the link at p out, joins its neighbours and answers what it was. 12: p is stale.
     pub fn chain_arena_remove(
         prev: *mut u16, prev_len: usize, next: *mut u16, next_len: usize,
@@ -215,8 +235,8 @@ unsafe extern "C" {
         header: *mut u32, header_len: usize,
     ) -> PlainResult;
 
-    /// Applies commands of five words each (a code, then slot and generation of two pointers) and writes an answer for
-    /// each. 16: the number of command words is not divisible by five; 14: there are more commands than answer words.
+    /// Applies commands of six words each (a code, slot and generation of two pointers, a payload) and writes an answer for
+    /// each. 16: the number of command words is not divisible by six; 14: there are more commands than answer words.
     pub fn chain_arena_run(
         prev: *mut u16, prev_len: usize, next: *mut u16, next_len: usize,
         generation: *mut u32, generation_len: usize, payload: *mut u32, payload_len: usize,
