@@ -6,11 +6,11 @@ use mathlib.Core.List.{List, [], _∷_}
 use native.Mathlib.Omega.{arith}
 use native.Mathlib.Decide.{ℕ-discrete}
 use lib.ListN.{length}
-use Rattle.definitions.specs.Columns.{firstOr}
-use Rattle.definitions.specs.Arena.{Arena, capacityLimit, stackLength, root, linkSlots, isLink}
-use Rattle.definitions.specs.Check.{WellFormed, Freelist, Neighbour}
+use Rattle.definitions.specs.Arena.{Arena, capacityLimit, stackLength, linkSlots, isLink}
+use Rattle.definitions.specs.Check.{WellFormed, Neighbour}
+use Rattle.definitions.proofs.Freelist.{root-within}
 use Rattle.definitions.proofs.Slots.{allocated-some, allocated-within}
-use Rattle.definitions.proofs.Count.{In, in-here, not-in-nil, count-links}
+use Rattle.definitions.proofs.Count.{In, not-in-nil, count-links}
 use Rattle.base_slots.specs.Removal.{Removable}
 
 -- a neighbour is none, or is in the stack
@@ -20,12 +20,6 @@ neighbour-within a back x s h = go (ℕ-discrete s 0)
     go : Dec (s ≡ 0) → s ≤ stackLength a
     go (yes z) = omega arith
     go (no d) = allocated-within (a .generation) (stackLength a) s (h d .0)
-
--- the root is none, or is in the stack
-root-within : (a : Arena) (fs : List ℕ) → Freelist a fs → root a ≤ stackLength a
-unfolding firstOr
-root-within a [] f = let e = f .starts in omega arith
-root-within a (s ∷ fs) f = let e = f .starts in omega (arith, f .free s (in-here s fs) .1)
 
 some-member : (x : ℕ) (xs : List ℕ) → In x xs → 0 < length xs
 some-member x [] i = absurd (not-in-nil x i)

@@ -14,7 +14,7 @@ abbrev pub widePointer : WidePtr → Pointer
 widePointer p = pointer (p .slot) (p .generation .0)
 
 abbrev pub commandOf : Command → Command₁
-commandOf c = record { code = c .code; first = widePointer (c .first); second = widePointer (c .second) }
+commandOf c = record { code = c .code; first = widePointer (c .first); second = widePointer (c .second); payload = c .payload }
 
 -- a pointer in 16 bits: slot 0, which is always stale, instead of one over 65,535, which is stale too
 abbrev pub narrowed : Pointer → Pointer

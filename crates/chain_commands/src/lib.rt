@@ -11,13 +11,14 @@ ghost use Rattle.chain_commands.specs.Commands.{widePointer, narrowed, c
 use chain_edits::break_side;
 use chain_edits::connect;
 use chain_edits::exchange_next;
+use chain_insertion::insert_coded;
 use chain_removal::remove;
 use ptr::Gen;
 use ptr::Ptr;
 use ptr::Slot;
 
 // The number of words of a command.
-pub const COMMAND_WORDS: usize = 5;
+pub const COMMAND_WORDS: usize = 6;
 
 // A pointer as a command has it: any word may stand for its slot.
 pub struct WidePtr {
@@ -45,11 +46,12 @@ impl WidePtr {
     }
 }
 
-// A command: what to do, by its code, and two pointers (REFERENCE, Run).
+// A command: what to do, by its code, two pointers and a payload (REFERENCE, Run).
 pub struct Command {
     pub code: u32,
     pub first: WidePtr,
     pub second: WidePtr,
+    pub payload: u32,
 }
 
 // Command i, from 0, of the words.
@@ -68,10 +70,11 @@ pub fn command_at(commands: &[u32], i: usize) -> Command
             slot: commands[w + 3],
             generation: Gen(commands[w + 4]),
         },
+        payload: commands[w + 5],
     }
 }
 
-// One command. Answers its number: 0 or 100 where it was done, 12 or 13 where it was refused, 16 for an unknown code.
+// One command. Answers its number: 0 or 100 where it was done, 12, 13, 17 or 18 where it was refused, 16 for an unknown code.
 pub fn apply(
     prev: &mut [u16],
     next: &mut [u16],
@@ -88,6 +91,7 @@ pub fn apply(
     let first = c.first;
     let second = c.second;
     let code = c.code;
+    let x = c.payload;
     let p = first.narrow();
     let q = second.narrow();
     // By size, since a jump through a table of all codes costs more than the edits do.
@@ -103,7 +107,7 @@ pub fn apply(
         match code {
             4 => exchange_next(prev, next, &*generation, &*payload, &*header, p, q).number(),
             5 => remove(prev, next, generation, payload, header, p).number(),
-            _ => 16,
+            _ => insert_coded(prev, next, generation, payload, header, code, p, q, x).number(),
         }
     }
 }

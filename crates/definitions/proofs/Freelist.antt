@@ -216,3 +216,10 @@ module _ (a : Arena) where
       let some-free : length free ≡ 0 → ⊥ = λ z. omega arith in
       let walked = walk-of-visits (a .next) (a .generation) (stackLength a) (stackLength a + 2) (root a) 0 rest (visits-of-freelist s rest h) (omega (arith, links-and-free (a .generation) (stackLength a))) in
       search tests depth 20
+
+-- ---- the root is none, or is in the stack
+
+pub root-within : (a : Arena) (fs : List ℕ) → Freelist a fs → root a ≤ stackLength a
+unfolding firstOr
+root-within a [] f = let e = f .starts in omega arith
+root-within a (s ∷ fs) f = let e = f .starts in omega (arith, f .free s (in-here s fs) .1)

@@ -12,6 +12,7 @@ use Rattle.definitions.specs.Read.{Pointer, getLink, getLinkNoGen, areNe
 use Rattle.definitions.specs.Walk.{walkStart, walkStep}
 use Rattle.definitions.specs.Edit.{connect, breakPrev, breakNext, exchangeNext, setGeneration, incGeneration}
 use Rattle.definitions.specs.Remove.{remove, drain, canonicalizeFreelist}
+use Rattle.definitions.specs.Insert.{kindOf, insertCoded}
 use Rattle.definitions.specs.Run.{run}
 use Rattle.definitions.specs.Compress.{compressWith, compressCanonical}
 
@@ -27,6 +28,7 @@ pub data Call : Type 0 where
   BreakPrev : Pointer → Call
   BreakNext : Pointer → Call
   ExchangeNext : Pointer → Pointer → Call
+  Insert : ℕ → Pointer → Pointer → ℕ → Call
   Remove : Pointer → Call
   Drain : Pointer → Call
   SetGeneration : ℕ → Call
@@ -48,6 +50,7 @@ accepted top (Connect p q) a l = connect a p q l
 accepted top (BreakPrev p) a l = breakPrev a p l
 accepted top (BreakNext p) a l = breakNext a p l
 accepted top (ExchangeNext p q) a l = exchangeNext a p q l
+accepted top (Insert code p q x) a l = insertCoded a (kindOf code p q) x l
 accepted top (Remove p) a l = remove top a p l
 accepted top (Drain p) a l = drain top a p l
 accepted top (SetGeneration g) a l = setGeneration a g l

@@ -13,6 +13,7 @@ use Rattle.definitions.specs.Columns.{at, put, firstOr, lastOr, slotsFro
 use Rattle.definitions.specs.Check.{misshapen, freelistWalk, namesBack, neighboursFine, allFine, countsOf, verdict}
 use Rattle.definitions.specs.Edit.{connect, breakPrev, breakNext, exchangeNext, nextGeneration, overflows, setGeneration, incGeneration}
 use Rattle.definitions.specs.Remove.{joined, vacated, removed, remove, removedAll, drainItems, overflowItem, drain, threaded, canonicalizeFreelist}
+use Rattle.definitions.specs.Insert.{kindOf, insertCoded}
 use Rattle.definitions.specs.Run.{apply, applied, answersOf, run}
 use Rattle.definitions.specs.Compress.{raises, compressGeneration, compressNumber, place, relocate, movesOf, compressWith, exchanged, exchangeWords, exchangeLinks, exchangeSlots, putAtI, lowestFrom, startOf, layChain, layChains, laidOut, canonicalArena, compressCanonical}
 
@@ -38,13 +39,13 @@ abbrev pub expected : Row → Answer
 expected row = record { answers = row .answers; left = row .left }
 
 -- a call that hands in a slice or a walk's state, and one that hands in nothing
-abbrev with : Call → List ℕ → Made
+abbrev pub with : Call → List ℕ → Made
 with c l = record { call = c; hands = l }
 
-abbrev plain : Call → Made
+abbrev pub plain : Call → Made
 plain c = with c []
 
-abbrev row : Arena → List Made → List (List ℕ) → Arena → Row
+abbrev pub row : Arena → List Made → List (List ℕ) → Arena → Row
 row start calls answers left = record { start = start; calls = calls; answers = answers; left = left }
 
 -- three links in one open chain, and two links in a closed one; every generation is 5
@@ -85,7 +86,7 @@ rows =
 
 -- every row holds: what the definitions compute is what is expected
 pub marked-cases : map computed rows ≡ map expected rows
-unfolding rows at put firstOr lastOr slotsFrom keep written settled allocated linkSlots freeSlots misshapen freelistWalk namesBack neighboursFine allFine countsOf verdict stale getLink getLinkNoGen neighbors areNeighbors walkStart onward step walkStep walked connect breakPrev breakNext exchangeNext nextGeneration overflows setGeneration incGeneration joined vacated removed remove removedAll drainItems overflowItem drain threaded canonicalizeFreelist apply applied answersOf run raises compressGeneration compressNumber place relocate movesOf compressWith exchanged exchangeWords exchangeLinks exchangeSlots putAtI lowestFrom startOf layChain layChains laidOut canonicalArena compressCanonical accepted replyTo repliesTo arenaAfter
+unfolding rows at put firstOr lastOr slotsFrom keep written settled allocated linkSlots freeSlots misshapen freelistWalk namesBack neighboursFine allFine countsOf verdict stale getLink getLinkNoGen neighbors areNeighbors walkStart onward step walkStep walked connect breakPrev breakNext exchangeNext nextGeneration overflows setGeneration incGeneration joined vacated removed remove removedAll drainItems overflowItem drain threaded canonicalizeFreelist kindOf insertCoded apply applied answersOf run raises compressGeneration compressNumber place relocate movesOf compressWith exchanged exchangeWords exchangeLinks exchangeSlots putAtI lowestFrom startOf layChain layChains laidOut canonicalArena compressCanonical accepted replyTo repliesTo arenaAfter
 marked-cases = refl
 
 -- Corners in the same form: the limits, the refusals of the calls, and what docs/DECISIONS.md has decided
@@ -109,10 +110,10 @@ corners =
     row (arena (0 ∷ 0 ∷ []) (2 ∷ 0 ∷ []) (5 ∷ 5 ∷ []) (11 ∷ 12 ∷ []) (2 ∷ 2 ∷ 0 ∷ 5 ∷ [])) (plain Check ∷ with WalkStep (1 ∷ 1 ∷ 0 ∷ 2 ∷ []) ∷ plain (GetLinkNoGen (pointer 1 5)) ∷ []) ((11 ∷ []) ∷ (11 ∷ 0 ∷ 0 ∷ 1 ∷ 1 ∷ 0 ∷ 2 ∷ []) ∷ (11 ∷ 0 ∷ 0 ∷ 0 ∷ []) ∷ []) (arena (0 ∷ 0 ∷ []) (2 ∷ 0 ∷ []) (5 ∷ 5 ∷ []) (11 ∷ 12 ∷ []) (2 ∷ 2 ∷ 0 ∷ 5 ∷ [])) ∷
     -- the freelist in order: slots 4 and 5 are popped, of the free slots 1 and 2 only the next words are written
     row (arena (7 ∷ 8 ∷ 0 ∷ 9 ∷ 6 ∷ []) (5 ∷ 2 ∷ 0 ∷ 1 ∷ 2 ∷ []) (0 ∷ 0 ∷ 5 ∷ 0 ∷ 0 ∷ []) (21 ∷ 22 ∷ 13 ∷ 24 ∷ 25 ∷ []) (5 ∷ 1 ∷ 4 ∷ 5 ∷ [])) (plain Check ∷ plain CanonicalizeFreelist ∷ plain Check ∷ []) ((0 ∷ []) ∷ (0 ∷ []) ∷ (0 ∷ []) ∷ []) (arena (7 ∷ 8 ∷ 0 ∷ 0 ∷ 0 ∷ []) (2 ∷ 2 ∷ 0 ∷ 0 ∷ 0 ∷ []) (0 ∷ 0 ∷ 5 ∷ 0 ∷ 0 ∷ []) (21 ∷ 22 ∷ 13 ∷ 0 ∷ 0 ∷ []) (3 ∷ 1 ∷ 1 ∷ 5 ∷ [])) ∷
-    -- a run: 16 for words that are no whole commands, 14 for too few answer words
-    row three (with (Run (1 ∷ 2 ∷ 3 ∷ [])) (9 ∷ []) ∷ with (Run (9 ∷ 0 ∷ 0 ∷ 0 ∷ 0 ∷ 9 ∷ 0 ∷ 0 ∷ 0 ∷ 0 ∷ [])) (9 ∷ []) ∷ []) ((16 ∷ 9 ∷ []) ∷ (14 ∷ 9 ∷ []) ∷ []) three ∷
+    -- a run: 16 for words that are no whole commands, five where six make one; 14 for too few answer words
+    row three (with (Run (4 ∷ 1 ∷ 5 ∷ 2 ∷ 5 ∷ [])) (9 ∷ []) ∷ with (Run (20 ∷ 0 ∷ 0 ∷ 0 ∷ 0 ∷ 0 ∷ 20 ∷ 0 ∷ 0 ∷ 0 ∷ 0 ∷ 0 ∷ [])) (9 ∷ []) ∷ []) ((16 ∷ 9 ∷ []) ∷ (14 ∷ 9 ∷ []) ∷ []) three ∷
     -- a run: an exchange, an unknown code, a stale connect, a connect with a next in the way, a removal that overflows
-    row (arena (0 ∷ 1 ∷ 2 ∷ []) (2 ∷ 3 ∷ 0 ∷ []) (5 ∷ 5 ∷ 5 ∷ []) (11 ∷ 12 ∷ 13 ∷ []) (3 ∷ 3 ∷ 0 ∷ 4294967295 ∷ [])) (with (Run (4 ∷ 1 ∷ 5 ∷ 2 ∷ 5 ∷ 9 ∷ 0 ∷ 0 ∷ 0 ∷ 0 ∷ 1 ∷ 70000 ∷ 5 ∷ 1 ∷ 5 ∷ 1 ∷ 2 ∷ 5 ∷ 2 ∷ 5 ∷ 5 ∷ 3 ∷ 5 ∷ 0 ∷ 0 ∷ [])) (9 ∷ 9 ∷ 9 ∷ 9 ∷ 9 ∷ 9 ∷ []) ∷ []) ((0 ∷ 0 ∷ 16 ∷ 12 ∷ 13 ∷ 100 ∷ 9 ∷ []) ∷ []) (arena (0 ∷ 2 ∷ 0 ∷ []) (0 ∷ 2 ∷ 0 ∷ []) (5 ∷ 5 ∷ 0 ∷ []) (11 ∷ 12 ∷ 0 ∷ []) (2 ∷ 2 ∷ 0 ∷ 2 ∷ [])) ∷
+    row (arena (0 ∷ 1 ∷ 2 ∷ []) (2 ∷ 3 ∷ 0 ∷ []) (5 ∷ 5 ∷ 5 ∷ []) (11 ∷ 12 ∷ 13 ∷ []) (3 ∷ 3 ∷ 0 ∷ 4294967295 ∷ [])) (with (Run (4 ∷ 1 ∷ 5 ∷ 2 ∷ 5 ∷ 0 ∷ 20 ∷ 0 ∷ 0 ∷ 0 ∷ 0 ∷ 0 ∷ 1 ∷ 70000 ∷ 5 ∷ 1 ∷ 5 ∷ 0 ∷ 1 ∷ 2 ∷ 5 ∷ 2 ∷ 5 ∷ 0 ∷ 5 ∷ 3 ∷ 5 ∷ 0 ∷ 0 ∷ 0 ∷ [])) (9 ∷ 9 ∷ 9 ∷ 9 ∷ 9 ∷ 9 ∷ []) ∷ []) ((0 ∷ 0 ∷ 16 ∷ 12 ∷ 13 ∷ 100 ∷ 9 ∷ []) ∷ []) (arena (0 ∷ 2 ∷ 0 ∷ []) (0 ∷ 2 ∷ 0 ∷ []) (5 ∷ 5 ∷ 0 ∷ []) (11 ∷ 12 ∷ 0 ∷ []) (2 ∷ 2 ∷ 0 ∷ 2 ∷ [])) ∷
     -- a drain that overflows at its second item
     row (arena (0 ∷ 1 ∷ 2 ∷ []) (2 ∷ 3 ∷ 0 ∷ []) (5 ∷ 5 ∷ 5 ∷ []) (11 ∷ 12 ∷ 13 ∷ []) (3 ∷ 3 ∷ 0 ∷ 4294967294 ∷ [])) (with (Drain (pointer 1 5)) (9 ∷ 9 ∷ 9 ∷ 9 ∷ 9 ∷ 9 ∷ 9 ∷ 9 ∷ 9 ∷ 9 ∷ 9 ∷ 9 ∷ 9 ∷ 9 ∷ 9 ∷ []) ∷ []) ((0 ∷ 3 ∷ 2 ∷ 1 ∷ 5 ∷ 0 ∷ 2 ∷ 11 ∷ 2 ∷ 5 ∷ 0 ∷ 3 ∷ 12 ∷ 3 ∷ 5 ∷ 0 ∷ 0 ∷ 13 ∷ []) ∷ []) (arena (0 ∷ 0 ∷ 0 ∷ []) (1 ∷ 1 ∷ 0 ∷ []) (0 ∷ 0 ∷ 0 ∷ []) (0 ∷ 0 ∷ 0 ∷ []) (2 ∷ 0 ∷ 2 ∷ 3 ∷ [])) ∷
     -- compress_with: a report that is too short; then the closed pair in slots 2 and 4 goes to slots 1 and 2
@@ -130,5 +131,5 @@ corners =
     []
 
 pub corners-hold : map computed corners ≡ map expected corners
-unfolding corners at put firstOr lastOr slotsFrom keep written settled allocated linkSlots freeSlots misshapen freelistWalk namesBack neighboursFine allFine countsOf verdict stale getLink getLinkNoGen neighbors areNeighbors walkStart onward step walkStep walked connect breakPrev breakNext exchangeNext nextGeneration overflows setGeneration incGeneration joined vacated removed remove removedAll drainItems overflowItem drain threaded canonicalizeFreelist apply applied answersOf run raises compressGeneration compressNumber place relocate movesOf compressWith exchanged exchangeWords exchangeLinks exchangeSlots putAtI lowestFrom startOf layChain layChains laidOut canonicalArena compressCanonical accepted replyTo repliesTo arenaAfter
+unfolding corners at put firstOr lastOr slotsFrom keep written settled allocated linkSlots freeSlots misshapen freelistWalk namesBack neighboursFine allFine countsOf verdict stale getLink getLinkNoGen neighbors areNeighbors walkStart onward step walkStep walked connect breakPrev breakNext exchangeNext nextGeneration overflows setGeneration incGeneration joined vacated removed remove removedAll drainItems overflowItem drain threaded canonicalizeFreelist kindOf insertCoded apply applied answersOf run raises compressGeneration compressNumber place relocate movesOf compressWith exchanged exchangeWords exchangeLinks exchangeSlots putAtI lowestFrom startOf layChain layChains laidOut canonicalArena compressCanonical accepted replyTo repliesTo arenaAfter
 corners-hold = refl

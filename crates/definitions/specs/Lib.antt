@@ -7,9 +7,11 @@ pub mod Read
 pub mod Walk
 pub mod Edit
 pub mod Remove
+pub mod Insert
 pub mod Run
 pub mod Compress
 pub mod Calls
 pub mod Report
 pub mod Cases
+pub mod Insertions
 pub mod Refusals

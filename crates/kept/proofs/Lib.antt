@@ -2,6 +2,9 @@ pub mod Neighbours
 pub mod Edits
 pub mod Header
 pub mod Removal
+pub mod PutInColumn
+pub mod PutIn
+pub mod Insertion
 pub mod Runs
 pub mod CanonicalFreelist
 pub mod Drain

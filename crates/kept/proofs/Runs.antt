@@ -9,11 +9,12 @@ use Rattle.definitions.specs.Check.{WellFormed}
 use Rattle.definitions.specs.Run.{Command, apply, applied, answersOf, run}
 use Rattle.kept.proofs.Edits.{either-keeps, connect-keeps, breakPrev-keeps, breakNext-keeps, exchangeNext-keeps}
 use Rattle.kept.proofs.Removal.{remove-keeps}
+use Rattle.kept.proofs.Insertion.{insertCoded-keeps}
 
 -- one command
 pub apply-keeps : (limit top : ℕ) (a : Arena) → WellFormed limit a → (c : Command) → WellFormed limit (apply top a c .arena)
 unfolding apply
-apply-keeps limit top a ok c = search (either-keeps, connect-keeps, breakPrev-keeps, breakNext-keeps, exchangeNext-keeps, remove-keeps) depth 8
+apply-keeps limit top a ok c = search (either-keeps, connect-keeps, breakPrev-keeps, breakNext-keeps, exchangeNext-keeps, remove-keeps, insertCoded-keeps) depth 8
 
 -- every list of commands
 pub applied-keeps : (limit top : ℕ) (a : Arena) → WellFormed limit a → (cs : List Command) → WellFormed limit (applied top a cs)

@@ -7,7 +7,7 @@ use answers::Answer;
 use answers::checked;
 use chain_run::run;
 
-// Runs the commands, five words each, and writes an answer word for each: 0, 100, 12, 13 or 16 (REFERENCE, Run).
+// Runs the commands, six words each, and writes an answer word for each: 0, 100, 12, 13, 16, 17 or 18 (REFERENCE, Run).
 #[no_mangle]
 pub extern "C" fn chain_arena_run(
     prev: &mut [u16],

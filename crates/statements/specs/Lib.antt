@@ -3,4 +3,5 @@ pub mod Demand3
 pub mod WalkOrder
 pub mod Answers
 pub mod DrainsChain
+pub mod InsertPlaces
 pub mod EveryCall

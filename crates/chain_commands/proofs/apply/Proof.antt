@@ -1,7 +1,6 @@
 -- `chain_commands::apply` meets its contract. A command on narrowed pointers is the command, and its code says which edit it is. Assumes nothing.
-use native.Mathlib.Omega.{arith}
 use borrow.Author.Needs.{needs}
-use Rattle.chain_commands.proofs.Step.{connects, breaks, exchanges, removes, no-code}
+use Rattle.chain_commands.proofs.Step.{connects, breaks, exchanges, removes, inserts, no-code, zero-left, from-six}
 use Rattle.chain_commands.proofs.apply.Statement.{statement}
 use Rattle.chain_commands.proofs.apply.Tie as tie
 
@@ -23,7 +22,8 @@ returns-2 : tie.Need-returns-2
 returns-2 c =
     let low : tie.Then1 = search in
     let below = low .if1 .taken in
-    no-code _ _ _ (c .match .rest .1) (λ e. omega arith) (λ e. omega arith) (λ e. omega arith) (λ e. omega arith)
+    let other = c .match .rest .1 in
+    no-code _ _ _ (zero-left below other)
 
 returns-3 : tie.Need-returns-3
 returns-3 c =
@@ -49,14 +49,19 @@ returns-5 c =
 
 returns-6 : tie.Need-returns-6
 returns-6 c =
+    let done : tie.After-insert-coded = search in
+    let other : tie.At-match2-rest = search in
     let high : tie.Else2 = search in
-    let above = high .if2 .left in
-    no-code _ _ _ (λ e. omega arith) (λ e. omega arith) (λ e. omega arith) (c .match2 .rest .0 .1) (c .match2 .rest .1)
+    let second : tie.After-narrow2 = search in
+    inserts _ _ (begun second .pre) _ _ _ (one second .narrow .ensures) (second .narrow2 .ensures) _ _ (from-six (high .if2 .left) (other .match2 .rest .0 .1) (other .match2 .rest .1))
+    (done .insert-coded .result) (done .insert-coded .ensures) (c .number5 .ensures)
 
 pub apply-spec : {M : Type 1} → statement M
 apply-spec =
     tie.close
     (tie.spec
+    (λ c κs. search needs)
+    (λ c κs. search needs)
     (λ c κs. search needs)
     (λ c κs. search needs)
     (λ c κs. search needs)
@@ -92,4 +97,9 @@ apply-spec =
     (λ c. search needs)
     (λ c. search needs)
     returns-5
+    (λ c. search needs)
+    (λ c. search needs)
+    (λ c. search needs)
+    (λ c. search needs)
+    (λ c. search needs)
     returns-6)

@@ -3,7 +3,7 @@
 use Prim.Native.Nat.{ℕ, suc, _+_, _-_, _*_, _/_}
 use mathlib.Core.Path.{_≡_, refl}
 use mathlib.Core.Logic.{_↔_}
-use mathlib.Core.Bool.{Bool, false, cond, not, _&&_, _||_}
+use mathlib.Core.Bool.{Bool, true, false, cond, not, _&&_, _||_}
 use mathlib.Core.List.{List, [], _∷_, _++_, map}
 use lib.ListN.{length, getD, drop, replicate}
 use lib.Dec.{eqb, leb, ltb}
@@ -15,6 +15,30 @@ use Rattle.definitions.specs.Check.{FailsAt, namesBack, neighboursFine}
 use Rattle.definitions.specs.Reply.{reply}
 use Rattle.definitions.specs.Walk.{Walk, startAt, stateOf, step, walked, walkFrom}
 use Rattle.definitions.specs.Read.{Pointer, pointer, stale}
+use Rattle.definitions.specs.Insert.{
+  Named,
+  byPointer,
+  bySlot,
+  slotOf,
+  isThere,
+  Disconnected,
+  SingleLinkCyclic,
+  ChainEnd,
+  ChainStart,
+  NextTo,
+  PrevTo,
+  AtInterlink,
+  Bridge,
+  kind,
+  unknown,
+  kindOf,
+  nowhere,
+  between,
+  placeIf,
+  placeOf,
+  newSlot,
+  isFull,
+}
 use Rattle.definitions.specs.Run.{commandAt, commandsOf}
 use Rattle.definitions.specs.Compress.{place, relocate}
 use Rattle.definitions.specs.Report.{itemSlots}
@@ -130,16 +154,72 @@ stale-whole a p = refl
 pub pointer-whole : (s g : ℕ) → (pointer s g .slot ≡ s) × (pointer s g .generation ≡ g)
 pointer-whole s g = (refl, refl)
 
+-- ---- insertion: what a kind names, its code, where it puts a link, and in which slot
+
+pub slot-of-whole : (p : Pointer) (s : ℕ) → (slotOf (byPointer p) ≡ p .slot) × (slotOf (bySlot s) ≡ s)
+unfolding slotOf
+slot-of-whole p s = (refl, refl)
+
+pub is-there-whole : (a : Arena) (p : Pointer) (s : ℕ) → (isThere a (byPointer p) ≡ not (stale a p)) × (isThere a (bySlot s) ≡ isLink a s)
+unfolding isThere
+is-there-whole a p s = (refl, refl)
+
+pub kind-of-whole : (p q : Pointer) →
+    (kindOf 6 p q ≡ kind Disconnected)
+    × (kindOf 7 p q ≡ kind SingleLinkCyclic)
+    × (kindOf 8 p q ≡ kind (ChainEnd (byPointer p)))
+    × (kindOf 9 p q ≡ kind (ChainEnd (bySlot (p .slot))))
+    × (kindOf 10 p q ≡ kind (ChainStart (byPointer p)))
+    × (kindOf 11 p q ≡ kind (ChainStart (bySlot (p .slot))))
+    × (kindOf 12 p q ≡ kind (NextTo (byPointer p)))
+    × (kindOf 13 p q ≡ kind (NextTo (bySlot (p .slot))))
+    × (kindOf 14 p q ≡ kind (PrevTo (byPointer p)))
+    × (kindOf 15 p q ≡ kind (PrevTo (bySlot (p .slot))))
+    × (kindOf 16 p q ≡ kind (AtInterlink (byPointer p) (byPointer q)))
+    × (kindOf 17 p q ≡ kind (AtInterlink (bySlot (p .slot)) (bySlot (q .slot))))
+    × (kindOf 18 p q ≡ kind (Bridge (byPointer p) (byPointer q)))
+    × (kindOf 19 p q ≡ kind (Bridge (bySlot (p .slot)) (bySlot (q .slot))))
+    × (kindOf 5 p q ≡ unknown)
+    × (kindOf 20 p q ≡ unknown)
+unfolding kindOf
+kind-of-whole p q = (refl, refl, refl, refl, refl, refl, refl, refl, refl, refl, refl, refl, refl, refl, refl, refl)
+
+pub place-if-whole : (u v : ℕ) → (placeIf true u v ≡ between u v) × (placeIf false u v ≡ nowhere)
+unfolding placeIf
+place-if-whole u v = (refl, refl)
+
+pub place-of-whole : (a : Arena) (t : ℕ) (p q : Named) →
+    (placeOf a t Disconnected ≡ between 0 0)
+    × (placeOf a t SingleLinkCyclic ≡ between t t)
+    × (placeOf a t (ChainEnd p) ≡ placeIf (isThere a p && eqb (at (a .next) (slotOf p)) 0) (slotOf p) 0)
+    × (placeOf a t (ChainStart p) ≡ placeIf (isThere a p && eqb (at (a .prev) (slotOf p)) 0) 0 (slotOf p))
+    × (placeOf a t (NextTo p) ≡ placeIf (isThere a p) (slotOf p) (at (a .next) (slotOf p)))
+    × (placeOf a t (PrevTo p) ≡ placeIf (isThere a p) (at (a .prev) (slotOf p)) (slotOf p))
+    × (placeOf a t (AtInterlink p q) ≡ placeIf ((isThere a p && isThere a q) && eqb (at (a .next) (slotOf p)) (slotOf q)) (slotOf p) (slotOf q))
+    × (placeOf a t (Bridge p q)
+    ≡ placeIf ((isThere a p && isThere a q) && (eqb (at (a .next) (slotOf p)) 0 && eqb (at (a .prev) (slotOf q)) 0)) (slotOf p) (slotOf q))
+unfolding placeOf
+place-of-whole a t p q = (refl, refl, refl, refl, refl, refl, refl, refl)
+
+pub new-slot-whole : (a : Arena) → newSlot a ≡ cond (eqb (getD (a .header) 2 0) 0) (getD (a .header) 0 0 + 1) (getD (a .header) 2 0)
+unfolding newSlot
+new-slot-whole a = refl
+
+pub is-full-whole : (a : Arena) → isFull a ≡ eqb (getD (a .header) 2 0) 0 && eqb (getD (a .header) 0 0) (length (a .prev))
+unfolding isFull
+is-full-whole a = refl
+
 -- ---- commands by their words, and links in another order
 
-pub commands-of-whole : (ws : List ℕ) → commandsOf ws ≡ map (commandAt ws) (slotsFrom 0 (length ws / 5))
+pub commands-of-whole : (ws : List ℕ) → commandsOf ws ≡ map (commandAt ws) (slotsFrom 0 (length ws / 6))
 commands-of-whole ws = refl
 
 pub command-at-whole : (ws : List ℕ) (i : ℕ) →
-    (commandAt ws i .code ≡ getD ws (5 * i) 0)
-    × (commandAt ws i .first ≡ pointer (getD ws (5 * i + 1) 0) (getD ws (5 * i + 2) 0))
-    × (commandAt ws i .second ≡ pointer (getD ws (5 * i + 3) 0) (getD ws (5 * i + 4) 0))
-command-at-whole ws i = (refl, refl, refl)
+    (commandAt ws i .code ≡ getD ws (6 * i) 0)
+    × (commandAt ws i .first ≡ pointer (getD ws (6 * i + 1) 0) (getD ws (6 * i + 2) 0))
+    × (commandAt ws i .second ≡ pointer (getD ws (6 * i + 3) 0) (getD ws (6 * i + 4) 0))
+    × (commandAt ws i .payload ≡ getD ws (6 * i + 5) 0)
+command-at-whole ws i = (refl, refl, refl, refl)
 
 pub relocate-whole : (w : List ℕ) (g : ℕ) (a : Arena) →
     (relocate w g a .prev ≡ settled (stackLength a) (map (λ o. place w (at (a .prev) o)) w) (a .prev))

@@ -8,6 +8,7 @@ use Rattle.definitions.specs.Check.{verdict}
 use Rattle.definitions.specs.Reply.{Reply}
 use Rattle.definitions.specs.Calls.{repliesTo, arenaAfter}
 use Rattle.definitions.specs.Cases as cases
+use Rattle.definitions.specs.Insertions as insertions
 use Rattle.definitions.specs.Refusals as refusals
 
 -- what a row's calls answer, and the arena that they leave
@@ -27,6 +28,10 @@ marked-cases-whole = (refl, cases.marked-cases)
 pub corners-hold-whole : (length cases.corners ≡ 19) × (map answered cases.corners ≡ map stored cases.corners)
 unfolding cases.corners
 corners-hold-whole = (refl, cases.corners-hold)
+
+pub insertions-hold-whole : (length insertions.rows ≡ 41) × (map answered insertions.rows ≡ map stored insertions.rows)
+unfolding insertions.rows
+insertions-hold-whole = (refl, insertions.insertions-hold)
 
 pub each-refusal-whole : (length refusals.rows ≡ 38) × (map (λ (r : refusals.Row). verdict 2 (r .of)) refusals.rows ≡ map (λ (r : refusals.Row). r .number) refusals.rows)
 unfolding refusals.rows

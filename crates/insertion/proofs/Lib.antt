@@ -1,0 +1,6 @@
+pub mod Chains
+pub mod Grown
+pub mod Places
+pub mod InsertPlaces
+pub mod Full
+pub mod Empty
