@@ -1,27 +1,29 @@
 -- What follows for a program of which nothing is known but that it keeps the contract: a refusal has written nothing, what passed the check passes it afterwards, a drain that
--- is done has taken the chain, a canonical compression that is done has kept what one compression keeps (the field `one` of demand 3), and each answer of a run is one of five words. Each is a theorem about the definitions,
+-- is done has taken the chain, an insertion that is done has put its link where the kind says, a canonical compression that is done has kept what one compression keeps (the field `one` of demand 3), and each answer of a run is one of seven words. Each is a theorem about the definitions,
 -- carried over by the contract's one equation. Assumes nothing.
 use Prim.Native.Nat.{ℕ, _≤_, _<_, _/_, _%_}
 use mathlib.Core.Path.{_≡_, refl, sym, ap, subst, _∙_}
-use mathlib.Core.Logic.{_⊎_, inl, inr}
+use mathlib.Core.Logic.{_⊎_, inl, inr, _↔_}
 use mathlib.Core.Bool.{Bool}
 use mathlib.Core.List.{List, [], _∷_}
 use native.Mathlib.Omega.{arith}
 use lib.ListN.{length, take}
 use lib.Dec.{eqb}
 use Rattle.definitions.specs.Columns.{at, written}
-use Rattle.definitions.specs.Arena.{Arena, capacityLimit, largestGeneration, linkCount}
+use Rattle.definitions.specs.Arena.{Arena, capacity, capacityLimit, largestGeneration, linkCount, current}
 use Rattle.definitions.specs.Check.{verdict, WellFormed}
 use Rattle.definitions.specs.Reply.{Reply, reply}
 use Rattle.definitions.specs.Read.{Pointer}
 use Rattle.definitions.specs.Walk.{walkFrom}
+use Rattle.definitions.specs.Insert.{InsertKind, nowhere, placeOf, newSlot, kind, kindOf}
 use Rattle.definitions.specs.Run.{Command, commandWords, commandsOf, apply, applied, answersOf}
-use Rattle.definitions.specs.Calls.{Call, Check, Drain, Run, CompressCanonical, accepted, replyTo, Answers, Made, arenaAfter}
+use Rattle.definitions.specs.Calls.{Call, Check, Insert, Drain, Run, CompressCanonical, accepted, replyTo, Answers, Made, arenaAfter}
 use Rattle.definitions.proofs.Tests.{by-test}
 use Rattle.definitions.proofs.Count.{In, in-cases, not-in-nil}
 use Rattle.statements.specs.Chains.{pieces}
 use Rattle.statements.specs.Demand3.{Accepted, Compressed, OfOne}
 use Rattle.statements.specs.DrainsChain.{DrainsChain}
+use Rattle.statements.specs.InsertPlaces.{InsertPlaces}
 use Rattle.statements.specs.EveryCall.{Unchanged, AnswerWord}
 use Rattle.well_formed.proofs.WellFormed.{check-passes-exactly-if-well-formed}
 use Rattle.well_formed.proofs.Verdict.{verdict-bound}
@@ -30,6 +32,7 @@ use Rattle.demand3.proofs.Demand3.{demand-3, demand-3-at}
 use Rattle.every_call.proofs.RefusalChangesNothing.{refusal-changes-nothing}
 use Rattle.every_call.proofs.EveryCallKeeps.{every-call-keeps, any-calls-keep, inside-a-run}
 use Rattle.every_call.proofs.RunIsFold.{one-command, reply-of-a-run}
+use Rattle.every_call.proofs.Insertions.{done-insert-places, full-exactly-by-call}
 
 module _ (limit top : ℕ) (a : Arena) (l : List ℕ) (broken : ℕ) (r : Reply) where
   pub refusal-by-contract : (c : Call) → Answers limit top c a l broken r → (Accepted r → ⊥) → (r .arena ≡ a) × (r .back ≡ l)
@@ -48,6 +51,16 @@ module _ (limit top : ℕ) (a : Arena) (l : List ℕ) (broken : ℕ) (r : Reply)
   drain-by-contract enough q p done =
       subst (λ (s : Reply). DrainsChain limit top a (q .slot) (walkFrom a (q .slot)) l s) (sym (p .same))
       (done-drain-takes-the-chain limit top enough a q l (ap (λ (s : Reply). s .number) (sym (p .same)) ∙ done))
+
+  pub insert-by-contract : (code x : ℕ) (p q : Pointer) → Answers limit top (Insert code p q x) a l broken r → r .number ≡ 0 →
+      (k : InsertKind) × (kindOf code p q ≡ kind k) × (r .fields ≡ newSlot a ∷ current a ∷ []) × InsertPlaces a (r .arena) k (newSlot a) x
+  insert-by-contract code x p q kept done =
+      subst (λ (s : Reply). (k : InsertKind) × (kindOf code p q ≡ kind k) × (s .fields ≡ newSlot a ∷ current a ∷ []) × InsertPlaces a (s .arena) k (newSlot a) x) (sym (kept .same))
+      (done-insert-places limit top a p q code x l (ap (λ (s : Reply). s .number) (sym (kept .same)) ∙ done))
+
+  pub full-by-contract : (code x : ℕ) (p q : Pointer) → Answers limit top (Insert code p q x) a l broken r → verdict limit a ≡ 0 → (k : InsertKind) → kindOf code p q ≡ kind k →
+      (r .number ≡ 18) ↔ ((placeOf a (newSlot a) k ≡ nowhere → ⊥) × (linkCount a ≡ capacity a))
+  full-by-contract code x p q kept passes k e = rw (kept .same) (full-exactly-by-call limit top a p q code x l passes k e)
 
   pub compressed-by-contract : (reset : Bool) → Answers limit top (CompressCanonical reset) a l broken r → Accepted r → Compressed limit top a (r .arena) (r .back)
   compressed-by-contract reset p done =

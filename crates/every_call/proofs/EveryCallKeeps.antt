@@ -9,6 +9,7 @@ use Rattle.definitions.specs.Arena.{Arena}
 use Rattle.definitions.specs.Check.{verdict, WellFormed}
 use Rattle.definitions.specs.Read.{getLink, getLinkNoGen, areNeighbors}
 use Rattle.definitions.specs.Walk.{walkStart, walkStep}
+use Rattle.definitions.specs.Insert.{kindOf}
 use Rattle.definitions.specs.Run.{Command, applied}
 use Rattle.definitions.specs.Calls.{
   Call,
@@ -22,6 +23,7 @@ use Rattle.definitions.specs.Calls.{
   BreakPrev,
   BreakNext,
   ExchangeNext,
+  Insert,
   Remove,
   Drain,
   SetGeneration,
@@ -39,6 +41,7 @@ use Rattle.well_formed.proofs.WellFormed.{well-formed-if-passes, passes-if-well
 use Rattle.kept.proofs.Edits.{either-keeps, connect-keeps, breakPrev-keeps, breakNext-keeps, exchangeNext-keeps}
 use Rattle.kept.proofs.Header.{setGeneration-keeps, incGeneration-keeps}
 use Rattle.kept.proofs.Removal.{remove-keeps}
+use Rattle.kept.proofs.Insertion.{insertCoded-keeps}
 use Rattle.kept.proofs.Drain.{drain-keeps}
 use Rattle.kept.proofs.CanonicalFreelist.{canonicalizeFreelist-keeps}
 use Rattle.kept.proofs.Runs.{applied-keeps, run-keeps}
@@ -58,6 +61,7 @@ module _ (limit top : ℕ) where
   call-keeps (BreakPrev p) a l ok = breakPrev-keeps limit a ok p l
   call-keeps (BreakNext p) a l ok = breakNext-keeps limit a ok p l
   call-keeps (ExchangeNext p q) a l ok = exchangeNext-keeps limit a ok p q l
+  call-keeps (Insert code p q x) a l ok = insertCoded-keeps limit a ok (kindOf code p q) x l
   call-keeps (Remove p) a l ok = remove-keeps limit top a ok p l
   call-keeps (Drain p) a l ok = drain-keeps limit top a ok p l
   call-keeps (SetGeneration g) a l ok = setGeneration-keeps limit a ok g l

@@ -9,21 +9,23 @@ use lib.ListN.{length, replicate, take, getD}
 use lib.Dec.{eqb}
 use borrow.Author.Tests.{eq-eqb, ne-eqb, eqb-true}
 use Rattle.definitions.specs.Columns.{at, count, written, settled}
-use Rattle.definitions.specs.Arena.{Arena, arena, stackLength, linkCount, linkSlots, isLink}
+use Rattle.definitions.specs.Arena.{Arena, arena, capacity, stackLength, linkCount, current, linkSlots, isLink}
 use Rattle.definitions.specs.Check.{verdict, FailsAt, WellFormed, SameRead}
 use Rattle.definitions.specs.Reply.{Reply, reply}
 use Rattle.definitions.specs.Read.{Pointer, pointer, stale}
 use Rattle.definitions.specs.Walk.{Walk, startAt, stateOf, step, walkStart, walkStep, walkFrom}
 use Rattle.definitions.specs.Remove.{drain}
+use Rattle.definitions.specs.Insert.{InsertKind, nowhere, placeOf, newSlot, insert, kind, unknown, kindOf}
 use Rattle.definitions.specs.Run.{Command, commandsOf, apply, applied, answersOf}
 use Rattle.definitions.specs.Compress.{compressGeneration, relocate, compressWith, laidOut, canonicalArena, compressCanonical}
-use Rattle.definitions.specs.Calls.{Call, Made, Check, WalkStart, WalkStep, Drain, Run, CompressWith, CompressCanonical, accepted, replyTo, arenaAfter, Answers}
+use Rattle.definitions.specs.Calls.{Call, Made, Check, WalkStart, WalkStep, Insert, Drain, Run, CompressWith, CompressCanonical, accepted, replyTo, arenaAfter, Answers}
 use Rattle.definitions.proofs.Tests.{by-test, not-eq}
 use Rattle.statements.specs.Chains.{IsOpen, IsClosed, Chain, Alike, Listing, OnOneChain, Renaming, pieces, replaced, Paired}
-use Rattle.statements.specs.Demand3.{Agree, OfOne, Demand3}
+use Rattle.statements.specs.Demand3.{Agree, Further, made, compress, OfOne, Unmoved, Demand3}
 use Rattle.statements.specs.WalkOrder.{Walks}
 use Rattle.statements.specs.Answers.{answers}
 use Rattle.statements.specs.DrainsChain.{DrainsChain}
+use Rattle.statements.specs.InsertPlaces.{InsertPlaces}
 use Rattle.statements.specs.EveryCall.{Unchanged, AnswerWord, OneCommand}
 use Rattle.well_formed.proofs.WellFormed.{check-passes-exactly-if-well-formed}
 use Rattle.well_formed.proofs.ReadsOnly.{verdict-reads-only, payloads-are-not-read}
@@ -35,6 +37,9 @@ use Rattle.walks.proofs.Walks.{walk-gives-chain}
 use Rattle.walks.proofs.ChainOrder.{walk-open, walk-closed}
 use Rattle.walks.proofs.AnyState.{step-answers-links, none-after-none, walk-then-none, answers-are-links, none-again, walk-then-one-none}
 use Rattle.kept.proofs.Runs.{run-goes-on, answers-go-on}
+use Rattle.insertion.proofs.InsertPlaces.{insert-places, insert-answers}
+use Rattle.insertion.proofs.Full.{full-exactly}
+use Rattle.insertion.proofs.Empty.{empty-passes}
 use Rattle.drains.proofs.DrainsChain.{drain-takes-the-chain, done-drain-takes-the-chain}
 use Rattle.renaming.proofs.Relocated.{any-order-renames, any-order-well-formed}
 use Rattle.renaming.proofs.Determined.{renaming-determines}
@@ -46,8 +51,9 @@ use Rattle.demand3.proofs.Demand3.{demand-3, demand-3-at}
 use Rattle.every_call.proofs.RefusalChangesNothing.{refusal-changes-nothing}
 use Rattle.every_call.proofs.EveryCallKeeps.{every-call-keeps, any-calls-keep, inside-a-run}
 use Rattle.every_call.proofs.RunIsFold.{reply-of-a-run, one-command}
+use Rattle.every_call.proofs.Insertions.{insert-by-call, no-such-kind, full-exactly-by-call, done-insert-places, insertion-answers, grown-from-empty}
 use Rattle.every_call.proofs.ContractDetermines.{contract-determines, contract-can-be-kept, programs-agree}
-use Rattle.every_call.proofs.ByContract.{refusal-by-contract, kept-by-contract, drain-by-contract, demand-3-by-contract, demand-3-of-the-port, run-by-contract, check-by-contract, well-formed-after-calls, well-formed-after-commands, answers-are-words}
+use Rattle.every_call.proofs.ByContract.{refusal-by-contract, kept-by-contract, drain-by-contract, insert-by-contract, full-by-contract, demand-3-by-contract, demand-3-of-the-port, run-by-contract, check-by-contract, well-formed-after-calls, well-formed-after-commands, answers-are-words}
 
 -- ---- the check
 
@@ -91,7 +97,7 @@ inside-a-run-in-full = inside-a-run
 
 -- ---- a run
 
-pub reply-of-a-run-in-full : (limit top : ℕ) (a : Arena) (ws answers : List ℕ) → verdict limit a ≡ 0 → length ws % 5 ≡ 0 → length ws / 5 ≤ length answers
+pub reply-of-a-run-in-full : (limit top : ℕ) (a : Arena) (ws answers : List ℕ) → verdict limit a ≡ 0 → length ws % 6 ≡ 0 → length ws / 6 ≤ length answers
     → replyTo limit top (Run ws) a answers ≡ reply 0 [] (applied top a (commandsOf ws)) (written (answersOf top a (commandsOf ws)) answers)
 reply-of-a-run-in-full = reply-of-a-run
 
@@ -183,6 +189,52 @@ drain-takes-the-chain-in-full = drain-takes-the-chain
 pub done-drain-takes-the-chain-in-full : (limit top : ℕ) → limit < top → (a : Arena) (p : Pointer) (report : List ℕ) → replyTo limit top (Drain p) a report .number ≡ 0
     → DrainsChain limit top a (p .slot) (walkFrom a (p .slot)) report (replyTo limit top (Drain p) a report)
 done-drain-takes-the-chain-in-full = done-drain-takes-the-chain
+
+-- ---- insertion
+
+pub insert-places-in-full : (limit : ℕ) (a : Arena) → verdict limit a ≡ 0 → (k : InsertKind) (x : ℕ) (l : List ℕ) → insert a k x l .number ≡ 0 → InsertPlaces a (insert a k x l .arena) k (newSlot a) x
+insert-places-in-full = insert-places
+
+pub insert-answers-in-full : (a : Arena) (k : InsertKind) (x : ℕ) (l : List ℕ) → insert a k x l .number ≡ 0 → insert a k x l .fields ≡ newSlot a ∷ current a ∷ []
+insert-answers-in-full = insert-answers
+
+pub full-exactly-in-full : (limit : ℕ) (a : Arena) → verdict limit a ≡ 0 → (k : InsertKind) (x : ℕ) (l : List ℕ)
+    → (insert a k x l .number ≡ 18) ↔ ((placeOf a (newSlot a) k ≡ nowhere → ⊥) × (linkCount a ≡ capacity a))
+full-exactly-in-full = full-exactly
+
+-- the public call
+module _ (limit top : ℕ) (a : Arena) (p q : Pointer) (code x : ℕ) (l : List ℕ) where
+  pub insert-by-call-in-full : verdict limit a ≡ 0 → (k : InsertKind) → kindOf code p q ≡ kind k → replyTo limit top (Insert code p q x) a l ≡ insert a k x l
+  insert-by-call-in-full = insert-by-call limit top a p q code x l
+
+  pub no-such-kind-in-full : verdict limit a ≡ 0 → kindOf code p q ≡ unknown → replyTo limit top (Insert code p q x) a l ≡ reply 16 (0 ∷ 0 ∷ []) a l
+  no-such-kind-in-full = no-such-kind limit top a p q code x l
+
+  pub full-exactly-by-call-in-full : verdict limit a ≡ 0 → (k : InsertKind) → kindOf code p q ≡ kind k
+      → (replyTo limit top (Insert code p q x) a l .number ≡ 18) ↔ ((placeOf a (newSlot a) k ≡ nowhere → ⊥) × (linkCount a ≡ capacity a))
+  full-exactly-by-call-in-full = full-exactly-by-call limit top a p q code x l
+
+  pub done-insert-places-in-full : replyTo limit top (Insert code p q x) a l .number ≡ 0
+      → (k : InsertKind) × (kindOf code p q ≡ kind k) × (replyTo limit top (Insert code p q x) a l .fields ≡ newSlot a ∷ current a ∷ [])
+      × InsertPlaces a (replyTo limit top (Insert code p q x) a l .arena) k (newSlot a) x
+  done-insert-places-in-full = done-insert-places limit top a p q code x l
+
+pub insertion-answers-in-full : (top : ℕ) (a : Arena) (c : Command) → 6 ≤ c .code → c .code ≤ 19 → (apply top a c .number ≡ 0) ⊎ ((apply top a c .number ≡ 17) ⊎ (apply top a c .number ≡ 18))
+insertion-answers-in-full = insertion-answers
+
+pub empty-passes-in-full : (limit c g : ℕ) (ps ns gs vs : List ℕ) → length ps ≡ c → length ns ≡ c → length gs ≡ c → length vs ≡ c → c ≤ limit → 2 ≤ g
+    → verdict limit (arena ps ns gs vs (0 ∷ 0 ∷ 0 ∷ g ∷ [])) ≡ 0
+empty-passes-in-full = empty-passes
+
+pub grown-from-empty-in-full : (limit top c g : ℕ) (ps ns gs vs : List ℕ) → length ps ≡ c → length ns ≡ c → length gs ≡ c → length vs ≡ c → c ≤ limit → 2 ≤ g → (ms : List Made) →
+    (verdict limit (arenaAfter limit top ms (arena ps ns gs vs (0 ∷ 0 ∷ 0 ∷ g ∷ []))) ≡ 0)
+    × ((f : Further) → length (f .whereFrom) ≡ capacity (arenaAfter limit top ms (arena ps ns gs vs (0 ∷ 0 ∷ 0 ∷ g ∷ []))) →
+    let a = arenaAfter limit top ms (arena ps ns gs vs (0 ∷ 0 ∷ 0 ∷ g ∷ [])) in
+    let r = replyTo limit top (CompressCanonical (f .reset)) a (f .whereFrom) in
+    ((r .number ≡ 0) ⊎ (r .number ≡ 100))
+    × OfOne limit top a (r .arena) (take (linkCount a) (r .back)) (linkCount a) (pieces (at (r .arena .next)) (linkCount a))
+    × ((fs : List Further) → Unmoved limit top (r .arena) (map made fs) (linkCount a)))
+grown-from-empty-in-full = grown-from-empty
 
 -- ---- compressions
 
@@ -283,11 +335,19 @@ module _ (limit top : ℕ) (a : Arena) (l : List ℕ) (broken : ℕ) (r : Reply)
   pub drain-by-contract-in-full : limit < top → (q : Pointer) → Answers limit top (Drain q) a l broken r → r .number ≡ 0 → DrainsChain limit top a (q .slot) (walkFrom a (q .slot)) l r
   drain-by-contract-in-full = drain-by-contract limit top a l broken r
 
+  pub insert-by-contract-in-full : (code x : ℕ) (p q : Pointer) → Answers limit top (Insert code p q x) a l broken r → r .number ≡ 0 →
+      (k : InsertKind) × (kindOf code p q ≡ kind k) × (r .fields ≡ newSlot a ∷ current a ∷ []) × InsertPlaces a (r .arena) k (newSlot a) x
+  insert-by-contract-in-full = insert-by-contract limit top a l broken r
+
+  pub full-by-contract-in-full : (code x : ℕ) (p q : Pointer) → Answers limit top (Insert code p q x) a l broken r → verdict limit a ≡ 0 → (k : InsertKind) → kindOf code p q ≡ kind k →
+      (r .number ≡ 18) ↔ ((placeOf a (newSlot a) k ≡ nowhere → ⊥) × (linkCount a ≡ capacity a))
+  full-by-contract-in-full = full-by-contract limit top a l broken r
+
   pub demand-3-by-contract-in-full : (reset : Bool) → Answers limit top (CompressCanonical reset) a l broken r → (r .number ≡ 0) ⊎ (r .number ≡ 100) →
       OfOne limit top a (r .arena) (take (linkCount a) (r .back)) (linkCount a) (pieces (at (r .arena .next)) (linkCount a))
   demand-3-by-contract-in-full = demand-3-by-contract limit top a l broken r
 
-  pub run-by-contract-in-full : (ws : List ℕ) → Answers limit top (Run ws) a l broken r → verdict limit a ≡ 0 → length ws % 5 ≡ 0 → length ws / 5 ≤ length l →
+  pub run-by-contract-in-full : (ws : List ℕ) → Answers limit top (Run ws) a l broken r → verdict limit a ≡ 0 → length ws % 6 ≡ 0 → length ws / 6 ≤ length l →
       r ≡ reply 0 [] (applied top a (commandsOf ws)) (written (answersOf top a (commandsOf ws)) l)
   run-by-contract-in-full = run-by-contract limit top a l broken r
 

@@ -1,6 +1,7 @@
 pub mod RefusalChangesNothing
 pub mod EveryCallKeeps
 pub mod RunIsFold
+pub mod Insertions
 pub mod ContractDetermines
 pub mod ByContract
 pub mod InFull

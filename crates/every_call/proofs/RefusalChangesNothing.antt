@@ -12,6 +12,7 @@ use Rattle.definitions.specs.Read.{getLink, getLinkNoGen, areNeighbors}
 use Rattle.definitions.specs.Walk.{walkStart, walkStep}
 use Rattle.definitions.specs.Edit.{connect, breakPrev, breakNext, exchangeNext, doneNumber, setGeneration, incGeneration}
 use Rattle.definitions.specs.Remove.{remove, drain, canonicalizeFreelist}
+use Rattle.definitions.specs.Insert.{Place, nowhere, between, placeOf, newSlot, insertAt, insert, Coded, kind, unknown, kindOf, insertCoded}
 use Rattle.definitions.specs.Run.{Command, apply, run}
 use Rattle.definitions.specs.Compress.{compressNumber, compressWith, compressCanonical}
 use Rattle.definitions.specs.Calls.{
@@ -26,6 +27,7 @@ use Rattle.definitions.specs.Calls.{
   BreakPrev,
   BreakNext,
   ExchangeNext,
+  Insert,
   Remove,
   Drain,
   SetGeneration,
@@ -62,7 +64,17 @@ module _ (a : Arena) (l : List ℕ) where
   either true r s u v = u
   either false r s u v = v
 
-  ruleset branches = (either, refuses, done, done-over, done-raised)
+  inserted-at : (p : Place) (x : ℕ) → Unchanged a l (insertAt a p x l)
+  unfolding insertAt
+  inserted-at nowhere x = refuses 17 2
+  inserted-at (between u v) x = search (either, refuses, done)
+
+  inserted : (k : Coded) (x : ℕ) → Unchanged a l (insertCoded a k x l)
+  unfolding insertCoded insert
+  inserted unknown x = refuses 16 2
+  inserted (kind k) x = inserted-at (placeOf a (newSlot a) k) x
+
+  ruleset branches = (either, refuses, done, done-over, done-raised, inserted)
 
   of-call : (top : ℕ) (c : Call) → Unchanged a l (accepted top c a l)
   unfolding accepted getLink getLinkNoGen areNeighbors walkStart walkStep connect breakPrev breakNext exchangeNext remove drain setGeneration incGeneration canonicalizeFreelist run compressNumber compressWith compressCanonical
@@ -76,6 +88,7 @@ module _ (a : Arena) (l : List ℕ) where
   of-call top (BreakPrev p) = search branches
   of-call top (BreakNext p) = search branches
   of-call top (ExchangeNext p q) = search branches
+  of-call top (Insert code p q x) = inserted (kindOf code p q) x
   of-call top (Remove p) = search branches
   of-call top (Drain p) = search branches
   of-call top (SetGeneration g) = search branches

@@ -13,10 +13,11 @@ use Rattle.definitions.specs.Check.{verdict}
 use Rattle.definitions.specs.Reply.{Reply, reply}
 use Rattle.definitions.specs.Edit.{connect, breakPrev, breakNext, exchangeNext, doneNumber}
 use Rattle.definitions.specs.Remove.{remove}
+use Rattle.definitions.specs.Insert.{Place, nowhere, between, placeOf, newSlot, isFull, insertAt, insert, Coded, kind, unknown, kindOf, insertCoded}
 use Rattle.definitions.specs.Run.{Command, commandWords, commandsOf, apply, applied, answersOf, run}
 use Rattle.definitions.specs.Calls.{Run, accepted, replyTo}
 use Rattle.statements.specs.Demand3.{Accepted}
-use Rattle.statements.specs.EveryCall.{AnswerWord, done, done-with-overflow, stale, neighbour, no-code, OneCommand}
+use Rattle.statements.specs.EveryCall.{AnswerWord, done, done-with-overflow, stale, neighbour, no-code, no-place, no-room, OneCommand}
 use Rattle.every_call.proofs.RefusalChangesNothing.{refused-command}
 
 -- ---- one command
@@ -29,10 +30,22 @@ either-answers : (t : Bool) (r s : Reply) → AnswerWord (r .number) → AnswerW
 either-answers true r s u v = u
 either-answers false r s u v = v
 
+-- an insertion at a place, and by its code
+module _ (a : Arena) (x : ℕ) where
+  place-answers : (p : Place) → AnswerWord (insertAt a p x [] .number)
+  unfolding insertAt
+  place-answers nowhere = no-place
+  place-answers (between u v) = either-answers (isFull a) _ _ no-room done
+
+  coded-answers : (k : Coded) → AnswerWord (insertCoded a k x [] .number)
+  unfolding insertCoded insert
+  coded-answers unknown = no-code
+  coded-answers (kind k) = place-answers (placeOf a (newSlot a) k)
+
 pub one-command : (top : ℕ) (a : Arena) (c : Command) → OneCommand a (apply top a c)
 unfolding apply connect breakPrev breakNext exchangeNext remove
 one-command top a c = record {
-  answer = search (either-answers, answer-over, done, stale, neighbour, no-code) depth 12;
+  answer = search (either-answers, answer-over, done, stale, neighbour, coded-answers) depth 12;
   refused = refused-command top a c .arena;
 }
 

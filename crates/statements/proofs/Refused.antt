@@ -6,5 +6,6 @@ pub mod Compressions
 pub mod Calls
 pub mod Walks
 pub mod Drains
+pub mod Insertions
 pub mod Whole
 pub mod Meanings

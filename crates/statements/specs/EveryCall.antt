@@ -18,6 +18,8 @@ pub data AnswerWord : ℕ → Type 0 where
   stale : AnswerWord 12
   neighbour : AnswerWord 13
   no-code : AnswerWord 16
+  no-place : AnswerWord 17
+  no-room : AnswerWord 18
 
 -- the reply r to one command on the arena a: one of these numbers, and a is left as it was where the command is refused
 pub record OneCommand (a : Arena) (r : Reply) : Type 0 where

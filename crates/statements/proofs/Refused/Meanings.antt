@@ -11,13 +11,15 @@ use Rattle.definitions.specs.Columns.{count, firstOr, lastOr, slotsFrom}
 use Rattle.definitions.specs.Arena.{Arena, current, isLink}
 use Rattle.definitions.specs.Edit.{overflows}
 use Rattle.definitions.specs.Remove.{removedAll}
+use Rattle.definitions.specs.Insert.{Named, slotOf, Disconnected, SingleLinkCyclic, ChainEnd, ChainStart, NextTo, PrevTo, AtInterlink, Bridge}
 use Rattle.definitions.specs.Reply.{Reply}
 use Rattle.definitions.specs.Walk.{Walk, step}
 use Rattle.definitions.specs.Calls.{CompressCanonical, replyTo}
-use Rattle.statements.specs.Chains.{opened, closed, Some, OfLinks, IsOpen, IsClosed, Chain, IsChain, Rotation, Like, Alike, nth, extended, cut, marked, pieces, replaced}
+use Rattle.statements.specs.Chains.{Kind, opened, closed, Some, OfLinks, IsOpen, IsClosed, Chain, IsChain, Rotation, Like, Alike, nth, extended, cut, marked, pieces, replaced}
 use Rattle.statements.specs.Demand3.{Accepted, Every, Further, made, compress}
 use Rattle.statements.specs.Answers.{answers}
 use Rattle.statements.specs.DrainsChain.{overflowsAt}
+use Rattle.statements.specs.InsertPlaces.{chain, Makes, Apart}
 
 abbrev Same : Type 0 → Type 0 → Type 0
 Same A B = A ↔ B
@@ -98,3 +100,35 @@ answers-whole a k w = (refl, refl)
 pub overflows-at-whole : (top : ℕ) (a : Arena) (ss : List ℕ) (k : ℕ) → overflowsAt top a ss k ≡ overflows top (current (removedAll top a (take k ss)))
 unfolding overflowsAt
 overflows-at-whole top a ss k = refl
+
+-- ---- insertion: the chain that each kind makes, and the chains that it leaves alone
+
+pub chain-whole : (k : Kind) (c : List ℕ) → (chain k c .kind ≡ k) × (chain k c .members ≡ c)
+chain-whole k c = (refl, refl)
+
+pub makes-whole : (a : Arena) (t : ℕ) (p q : Named) (d : Chain) →
+    Same (Makes a t Disconnected d) (d ≡ chain opened (t ∷ []))
+    × Same (Makes a t SingleLinkCyclic d) (d ≡ chain closed (t ∷ []))
+    × Same (Makes a t (ChainEnd p) d) ((c : List ℕ) × IsOpen a (c ++ slotOf p ∷ []) × (d ≡ chain opened (c ++ slotOf p ∷ t ∷ [])))
+    × Same (Makes a t (ChainStart p) d) ((c : List ℕ) × IsOpen a (slotOf p ∷ c) × (d ≡ chain opened (t ∷ slotOf p ∷ c)))
+    × Same (Makes a t (NextTo p) d) ((k : Kind) × (c : List ℕ) × (e : List ℕ) × IsChain a k (c ++ slotOf p ∷ e) × (d ≡ chain k (c ++ slotOf p ∷ t ∷ e)))
+    × Same (Makes a t (PrevTo p) d) ((k : Kind) × (c : List ℕ) × (e : List ℕ) × IsChain a k (c ++ slotOf p ∷ e) × (d ≡ chain k (c ++ t ∷ slotOf p ∷ e)))
+    × Same (Makes a t (AtInterlink p q) d)
+    ((k : Kind) × (c : List ℕ) × (e : List ℕ) × IsChain a k (c ++ slotOf p ∷ e) × (firstOr (firstOr 0 (c ++ slotOf p ∷ [])) e ≡ slotOf q) × (d ≡ chain k (c ++ slotOf p ∷ t ∷ e)))
+    × Same (Makes a t (Bridge p q) d)
+    (((c : List ℕ) × (e : List ℕ) × IsOpen a (c ++ slotOf p ∷ []) × IsOpen a (slotOf q ∷ e) × ((c ++ slotOf p ∷ [] ≡ slotOf q ∷ e) → ⊥) × (d ≡ chain opened (c ++ slotOf p ∷ t ∷ slotOf q ∷ e)))
+    ⊎ ((c : List ℕ) × IsOpen a c × (firstOr 0 c ≡ slotOf q) × (lastOr 0 c ≡ slotOf p) × (d ≡ chain closed (c ++ t ∷ []))))
+unfolding Makes
+makes-whole a t p q d = (itself, itself, itself, itself, itself, itself, itself, itself)
+
+pub apart-whole : (p q : Named) (c : Chain) →
+    Same (Apart Disconnected c) (Unit {0})
+    × Same (Apart SingleLinkCyclic c) (Unit {0})
+    × Same (Apart (ChainEnd p) c) (count (slotOf p) (c .members) ≡ 0)
+    × Same (Apart (ChainStart p) c) (count (slotOf p) (c .members) ≡ 0)
+    × Same (Apart (NextTo p) c) (count (slotOf p) (c .members) ≡ 0)
+    × Same (Apart (PrevTo p) c) (count (slotOf p) (c .members) ≡ 0)
+    × Same (Apart (AtInterlink p q) c) ((count (slotOf p) (c .members) ≡ 0) × (count (slotOf q) (c .members) ≡ 0))
+    × Same (Apart (Bridge p q) c) ((count (slotOf p) (c .members) ≡ 0) × (count (slotOf q) (c .members) ≡ 0))
+unfolding Apart
+apart-whole p q c = (itself, itself, itself, itself, itself, itself, itself, itself)

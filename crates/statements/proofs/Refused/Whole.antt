@@ -2,13 +2,14 @@
 -- So a field that leaves out some slots, or one kind of chain, is refused although the small arenas of the other files do not show it.
 use Prim.Native.Nat.{ℕ, suc, _+_, _*_, _≤_, _<_}
 use mathlib.Core.Path.{_≡_, refl, sym, ap, _∙_}
-use mathlib.Core.Logic.{_↔_}
+use mathlib.Core.Logic.{_⊎_, _↔_}
 use mathlib.Core.Bool.{true, false}
 use mathlib.Core.List.{List, [], _∷_, _++_, map, reverse}
 use native.Mathlib.Omega.{arith}
 use lib.ListN.{length, getD, take, drop}
 use Rattle.definitions.specs.Columns.{at, count, firstOr, lastOr, slotsFrom, Linked}
-use Rattle.definitions.specs.Arena.{Arena, capacity, stackLength, linkCount, root, isLink}
+use Rattle.definitions.specs.Arena.{Arena, capacity, stackLength, linkCount, root, current, isLink}
+use Rattle.definitions.specs.Insert.{InsertKind}
 use Rattle.definitions.specs.Check.{verdict, WellFormed}
 use Rattle.statements.specs.Chains.{Kind, opened, closed, IsOpen, IsClosed, Chain, IsChain, Rotation, Like, Alike, nth, Listing, OnOneChain, Renaming, pieces, replaced, Paired, HoldTheSame}
 use Rattle.definitions.specs.Reply.{Reply}
@@ -18,6 +19,7 @@ use Rattle.statements.specs.Demand3.{Accepted, Every, Agree, Further, ma
 use Rattle.statements.specs.WalkOrder.{WalkOrder, Walks}
 use Rattle.definitions.specs.Report.{itemSlots}
 use Rattle.statements.specs.DrainsChain.{Untouched, overflowsAt, DrainsChain}
+use Rattle.statements.specs.InsertPlaces.{Makes, Apart, InsertPlaces}
 use Rattle.statements.specs.EveryCall.{Unchanged, AnswerWord, OneCommand}
 
 -- ---- chains
@@ -182,3 +184,20 @@ drains-chain-whole limit top a o ss report r d = (
   d .overflow,
   d .no-overflow,
 )
+
+-- ---- insertion
+
+pub insert-places-whole : (a b : Arena) (kind : InsertKind) (t x : ℕ) → InsertPlaces a b kind t x →
+    ((d : Chain) × Makes a t kind d)
+    × ((d : Chain) → Makes a t kind d → IsChain b (d .kind) (d .members))
+    × ((c : Chain) → IsChain a (c .kind) (c .members) → Apart kind c → IsChain b (c .kind) (c .members))
+    × ((c : Chain) → IsChain b (c .kind) (c .members) → ((d : Chain) × Makes a t kind d × Alike d c) ⊎ (IsChain a (c .kind) (c .members) × Apart kind c))
+    × ((s : ℕ) → isLink a s ≡ true → isLink b s ≡ true)
+    × ((s : ℕ) → isLink a s ≡ true → at (b .generation) s ≡ at (a .generation) s)
+    × ((s : ℕ) → isLink a s ≡ true → at (b .payload) s ≡ at (a .payload) s)
+    × (isLink a t ≡ false)
+    × (isLink b t ≡ true)
+    × ((s : ℕ) → isLink b s ≡ true → (s ≡ t → ⊥) → isLink a s ≡ true)
+    × (at (b .generation) t ≡ current a)
+    × (at (b .payload) t ≡ x)
+insert-places-whole a b kind t x p = (p .made, p .makes, p .stay, p .all, p .links, p .generations, p .payloads, p .fresh, p .new, p .only, p .generation, p .payload)
