@@ -133,3 +133,26 @@ pub fn arguments_of(case: &[u32; 192]) -> Arguments {
         fourth: word_at(case, from + 3),
     }
 }
+
+// The argument words of an insertion: the kind, two pointers and the payload.
+pub struct Insertion {
+    pub kind: u32,
+    pub p_slot: u16,
+    pub p_generation: u32,
+    pub q_slot: u16,
+    pub q_generation: u32,
+    pub payload: u32,
+}
+
+// The case's arguments, as those of an insertion.
+pub fn insertion_of(case: &[u32; 192]) -> Insertion {
+    let from = start(case, ARGS);
+    Insertion {
+        kind: word_at(case, from),
+        p_slot: slot_of(word_at(case, from + 1)),
+        p_generation: word_at(case, from + 2),
+        q_slot: slot_of(word_at(case, from + 3)),
+        q_generation: word_at(case, from + 4),
+        payload: word_at(case, from + 5),
+    }
+}

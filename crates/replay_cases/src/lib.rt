@@ -1,4 +1,4 @@
-// What the programs replay_read, replay_edits, replay_removal, replay_run and replay_compress share. Each replays stored answers of the crate triple_arena 0.15.1
+// What the programs replay_read, replay_edits, replay_insert, replay_removal, replay_run and replay_compress share. Each replays stored answers of the crate triple_arena 0.15.1
 // through some of the exported calls, so that every run of the gate compares with the crate, with no Rust at hand.
 //
 // A program's file stdin holds its cases, one a line of decimal numbers: the call's code; the number of slots; the shape, 1 to 5 if that column or the
@@ -26,11 +26,13 @@ pub use case::Arguments;
 pub use case::CODE;
 pub use case::GENERATION;
 pub use case::HEADER;
+pub use case::Insertion;
 pub use case::LENT;
 pub use case::NEXT;
 pub use case::PAYLOAD;
 pub use case::PREV;
 pub use case::arguments_of;
+pub use case::insertion_of;
 pub use case::lent_of;
 pub use case::slots_of;
 pub use case::words_of;
