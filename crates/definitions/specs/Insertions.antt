@@ -86,8 +86,7 @@ rows =
     row gapped (to 15 (pointer 3 7) ∷ []) at-two filled ∷
     row gapped (among 16 (pointer 1 5) (pointer 3 5) ∷ []) at-two filled ∷
     -- two lone links are joined around the root, which leads on to the next free slot
-    row apart (among 18 (pointer 3 5) (pointer 1 5) ∷ []) ((0 ∷ 4 ∷ 6 ∷ []) ∷ [])
-    (arena (4 ∷ 9 ∷ 0 ∷ 3 ∷ []) (0 ∷ 2 ∷ 4 ∷ 1 ∷ []) (5 ∷ 0 ∷ 5 ∷ 6 ∷ []) (11 ∷ 9 ∷ 13 ∷ 70 ∷ []) (4 ∷ 3 ∷ 2 ∷ 6 ∷ [])) ∷
+    row apart (among 18 (pointer 3 5) (pointer 1 5) ∷ []) ((0 ∷ 4 ∷ 6 ∷ []) ∷ []) (arena (4 ∷ 9 ∷ 0 ∷ 3 ∷ []) (0 ∷ 2 ∷ 4 ∷ 1 ∷ []) (5 ∷ 0 ∷ 5 ∷ 6 ∷ []) (11 ∷ 9 ∷ 13 ∷ 70 ∷ []) (4 ∷ 3 ∷ 2 ∷ 6 ∷ [])) ∷
     -- 17: a pointer of another generation, slot 0, a slot above the stack, a free slot
     row gapped (to 12 (pointer 1 6) ∷ []) (refused 17) gapped ∷
     row gapped (to 14 (pointer 0 0) ∷ []) (refused 17) gapped ∷
@@ -110,11 +109,9 @@ rows =
     row pair (alone 7 ∷ []) (refused 18) pair ∷
     row (arena [] [] [] [] (0 ∷ 0 ∷ 0 ∷ 6 ∷ [])) (alone 6 ∷ []) (refused 18) (arena [] [] [] [] (0 ∷ 0 ∷ 0 ∷ 6 ∷ [])) ∷
     -- where a slot is free there is room although the stack fills the columns; and what was freed last is taken first
-    row filled (plain (Remove (pointer 1 5)) ∷ plain (Remove (pointer 2 6)) ∷ to 10 (pointer 3 5) ∷ []) ((0 ∷ 0 ∷ 2 ∷ 11 ∷ []) ∷ (0 ∷ 0 ∷ 3 ∷ 70 ∷ []) ∷ (0 ∷ 2 ∷ 8 ∷ []) ∷ [])
-    (arena (0 ∷ 0 ∷ 2 ∷ []) (1 ∷ 3 ∷ 0 ∷ []) (0 ∷ 8 ∷ 5 ∷ []) (0 ∷ 70 ∷ 13 ∷ []) (3 ∷ 2 ∷ 1 ∷ 8 ∷ [])) ∷
+    row filled (plain (Remove (pointer 1 5)) ∷ plain (Remove (pointer 2 6)) ∷ to 10 (pointer 3 5) ∷ []) ((0 ∷ 0 ∷ 2 ∷ 11 ∷ []) ∷ (0 ∷ 0 ∷ 3 ∷ 70 ∷ []) ∷ (0 ∷ 2 ∷ 8 ∷ []) ∷ []) (arena (0 ∷ 0 ∷ 2 ∷ []) (1 ∷ 3 ∷ 0 ∷ []) (0 ∷ 8 ∷ 5 ∷ []) (0 ∷ 70 ∷ 13 ∷ []) (3 ∷ 2 ∷ 1 ∷ 8 ∷ [])) ∷
     -- at the largest generation nothing overflows
-    row (arena (0 ∷ []) (0 ∷ []) (0 ∷ []) (0 ∷ []) (0 ∷ 0 ∷ 0 ∷ 4294967295 ∷ [])) (alone 6 ∷ plain Check ∷ []) ((0 ∷ 1 ∷ 4294967295 ∷ []) ∷ (0 ∷ []) ∷ [])
-    (arena (0 ∷ []) (0 ∷ []) (4294967295 ∷ []) (70 ∷ []) (1 ∷ 1 ∷ 0 ∷ 4294967295 ∷ [])) ∷
+    row (arena (0 ∷ []) (0 ∷ []) (0 ∷ []) (0 ∷ []) (0 ∷ 0 ∷ 0 ∷ 4294967295 ∷ [])) (alone 6 ∷ plain Check ∷ []) ((0 ∷ 1 ∷ 4294967295 ∷ []) ∷ (0 ∷ []) ∷ []) (arena (0 ∷ []) (0 ∷ []) (4294967295 ∷ []) (70 ∷ []) (1 ∷ 1 ∷ 0 ∷ 4294967295 ∷ [])) ∷
     -- in a run: an insertion, one behind a link that another insertion made, 17 for a slot over 65,535, and 18
     row lone (with (Run (8 ∷ 1 ∷ 5 ∷ 0 ∷ 0 ∷ 70 ∷ 13 ∷ 70000 ∷ 0 ∷ 0 ∷ 0 ∷ 71 ∷ 6 ∷ 0 ∷ 0 ∷ 0 ∷ 0 ∷ 72 ∷ [])) (9 ∷ 9 ∷ 9 ∷ 9 ∷ []) ∷ []) ((0 ∷ 0 ∷ 17 ∷ 18 ∷ 9 ∷ []) ∷ []) behind ∷
     []
