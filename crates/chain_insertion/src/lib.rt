@@ -12,11 +12,11 @@ ghost use Rattle.chain_insertion.specs.Inserted.{insertedReply};
 use base_insertion::insert_between;
 use base_insertion::new_slot;
 use header::CURRENT_GENERATION;
+use insert_check::check_link_insert_kind;
 use insert_kinds::Coded;
 use insert_kinds::LinkInsertKind;
 use insert_kinds::kind_of;
 use insert_places::Place;
-use insert_places::check_link_insert_kind;
 use ptr::Gen;
 use ptr::Ptr;
 

@@ -1,22 +1,17 @@
-// The place of a new link (`check_link_insert_kind` of chain/impl_chain_arena_trait.rs) in an arena that passed the check.
+// Places of a new link in an arena that passed the check: whether the links that a kind names are there, and between which slots the new one goes
+// (chain/impl_chain_arena_trait.rs).
 ghost use mathlib.Core.Path.{_≡_};
 ghost use mathlib.Core.Bool.{_&&_};
 ghost use Prim.Native.Nat.{_≤_};
 ghost use lib.Dec.{eqb};
 ghost use lib.ListN.{length};
 ghost use Rattle.definitions.specs.Columns.{at};
-ghost use Rattle.definitions.specs.Arena.{capacityLimit};
-ghost use Rattle.definitions.specs.Lent.{lent, atEntry};
-ghost use Rattle.definitions.specs.Insert.{byPointer, bySlot, placeIf, placeOf};
-ghost use Rattle.definitions.proofs.Shaped.{Shaped};
+ghost use Rattle.definitions.specs.Insert.{byPointer, bySlot, placeIf};
 ghost use Rattle.chain_traits.specs.Read.{pointerOf};
-ghost use Rattle.insert_kinds.specs.Kinds.{insertKindOf};
 ghost use Rattle.insert_places.specs.Places.{thereIn, Standing, placed};
 use chain_traits::stale;
 use columns::slot_at;
 use columns::word_at;
-use header::STACK_LENGTH;
-use insert_kinds::LinkInsertKind;
 use ptr::Ptr;
 use ptr::Slot;
 
@@ -49,7 +44,7 @@ pub fn contains_inx(generation: &[u32], n: usize, s: Slot) -> bool
 }
 
 // Whether both hold.
-fn both(x: bool, y: bool) -> bool
+pub fn both(x: bool, y: bool) -> bool
     ensures { λ r. ⌜ r ≡ x && y ⌝ }
 {
     if x {
@@ -59,7 +54,7 @@ fn both(x: bool, y: bool) -> bool
 }
 
 // Whether the link s, if it is there, has no neighbour in the column.
-fn lacks(column: &[u16], there: bool, s: Slot) -> bool
+pub fn lacks(column: &[u16], there: bool, s: Slot) -> bool
     requires { ⌜ Standing there (s .0) (now column) ⌝ }
     ensures { λ r. ⌜ r ≡ there && eqb (at (now (column .entry)) (s .0)) 0 ⌝ }
 {
@@ -70,7 +65,7 @@ fn lacks(column: &[u16], there: bool, s: Slot) -> bool
 }
 
 // Between u and v if that fits, else nowhere.
-fn place_if(fits: bool, u: Slot, v: Slot) -> Place
+pub fn place_if(fits: bool, u: Slot, v: Slot) -> Place
     ensures { λ r. ⌜ placed r ≡ placeIf fits (u .0) (v .0) ⌝ }
 {
     if fits {
@@ -80,7 +75,7 @@ fn place_if(fits: bool, u: Slot, v: Slot) -> Place
 }
 
 // Right behind the link s, if it is there.
-fn next_to(next: &[u16], there: bool, s: Slot) -> Place
+pub fn next_to(next: &[u16], there: bool, s: Slot) -> Place
     requires { ⌜ Standing there (s .0) (now next) ⌝ }
     ensures { λ r. ⌜ placed r ≡ placeIf there (s .0) (at (now (next .entry)) (s .0)) ⌝ }
 {
@@ -92,7 +87,7 @@ fn next_to(next: &[u16], there: bool, s: Slot) -> Place
 }
 
 // Right before the link s, if it is there.
-fn prev_to(prev: &[u16], there: bool, s: Slot) -> Place
+pub fn prev_to(prev: &[u16], there: bool, s: Slot) -> Place
     requires { ⌜ Standing there (s .0) (now prev) ⌝ }
     ensures { λ r. ⌜ placed r ≡ placeIf there (at (now (prev .entry)) (s .0)) (s .0) ⌝ }
 {
@@ -104,7 +99,7 @@ fn prev_to(prev: &[u16], there: bool, s: Slot) -> Place
 }
 
 // Between the links s and t, if they are there and t is the next of s.
-fn at_interlink(next: &[u16], there: bool, s: Slot, t: Slot) -> Place
+pub fn at_interlink(next: &[u16], there: bool, s: Slot, t: Slot) -> Place
     requires { ⌜ Standing there (s .0) (now next) ⌝ }
     ensures { λ r. ⌜ placed r ≡ placeIf (there && eqb (at (now (next .entry)) (s .0)) (t .0)) (s .0) (t .0) ⌝ }
 {
@@ -115,7 +110,7 @@ fn at_interlink(next: &[u16], there: bool, s: Slot, t: Slot) -> Place
 }
 
 // Between the links s and t, if they are there and s has no next and t no prev.
-fn bridge(prev: &[u16], next: &[u16], there: bool, s: Slot, t: Slot) -> Place
+pub fn bridge(prev: &[u16], next: &[u16], there: bool, s: Slot, t: Slot) -> Place
     requires { ⌜ Standing there (s .0) (now next) ⌝ }
     requires { ⌜ Standing there (t .0) (now prev) ⌝ }
     ensures { λ r. ⌜ placed r ≡ placeIf (there && (eqb (at (now (next .entry)) (s .0)) 0 && eqb (at (now (prev .entry)) (t .0)) 0)) (s .0) (t .0) ⌝ }
@@ -124,73 +119,4 @@ fn bridge(prev: &[u16], next: &[u16], there: bool, s: Slot, t: Slot) -> Place
         return place_if(lacks(prev, there, t), s, t);
     }
     Place::Nowhere
-}
-
-// The place that a kind names, if what it asks holds. t is the slot of the new link.
-pub fn check_link_insert_kind(
-    prev: &[u16],
-    next: &[u16],
-    generation: &[u32],
-    payload: &[u32],
-    header: &[u32],
-    t: Slot,
-    kind: LinkInsertKind,
-) -> Place
-    requires { ⌜ Shaped capacityLimit (lent prev next generation payload header) ⌝ }
-    ensures { λ r. ⌜ placed r ≡ placeOf (atEntry prev next generation payload header) (t .0) (insertKindOf kind) ⌝ }
-{
-    let n = header[STACK_LENGTH] as usize;
-    match kind {
-        LinkInsertKind::Disconnected => Place::Between(Slot(0), Slot(0)),
-        LinkInsertKind::SingleLinkCyclic => Place::Between(t, t),
-        LinkInsertKind::ChainEnd(p) => {
-            place_if(
-                lacks(next, contains(generation, n, p), p.inx),
-                p.inx,
-                Slot(0),
-            )
-        }
-        LinkInsertKind::ChainEndInx(s) => {
-            place_if(lacks(next, contains_inx(generation, n, s), s), s, Slot(0))
-        }
-        LinkInsertKind::ChainStart(p) => {
-            place_if(
-                lacks(prev, contains(generation, n, p), p.inx),
-                Slot(0),
-                p.inx,
-            )
-        }
-        LinkInsertKind::ChainStartInx(s) => {
-            place_if(lacks(prev, contains_inx(generation, n, s), s), Slot(0), s)
-        }
-        LinkInsertKind::NextTo(p) => next_to(next, contains(generation, n, p), p.inx),
-        LinkInsertKind::NextToInx(s) => next_to(next, contains_inx(generation, n, s), s),
-        LinkInsertKind::PrevTo(p) => prev_to(prev, contains(generation, n, p), p.inx),
-        LinkInsertKind::PrevToInx(s) => prev_to(prev, contains_inx(generation, n, s), s),
-        LinkInsertKind::AtInterlink { next_to, prev_to } => {
-            let there = both(
-                contains(generation, n, next_to),
-                contains(generation, n, prev_to),
-            );
-            at_interlink(next, there, next_to.inx, prev_to.inx)
-        }
-        LinkInsertKind::AtInterlinkInx { next_to, prev_to } => {
-            let there = both(
-                contains_inx(generation, n, next_to),
-                contains_inx(generation, n, prev_to),
-            );
-            at_interlink(next, there, next_to, prev_to)
-        }
-        LinkInsertKind::Bridge { end, start } => {
-            let there = both(contains(generation, n, end), contains(generation, n, start));
-            bridge(prev, next, there, end.inx, start.inx)
-        }
-        LinkInsertKind::BridgeInx { end, start } => {
-            let there = both(
-                contains_inx(generation, n, end),
-                contains_inx(generation, n, start),
-            );
-            bridge(prev, next, there, end, start)
-        }
-    }
 }

@@ -1,7 +1,7 @@
 -- `insert_places::bridge` meets its contract: two tests, of which the second is made where the first holds. Assumes nothing.
 use denote.Ref.{now}
 use borrow.Author.Needs.{needs}
-use Rattle.insert_places.proofs.Named.{both-lack, one-has}
+use Rattle.insert_places.proofs.Parts.{both-lack, one-has}
 use Rattle.insert_places.proofs.bridge.Statement.{statement}
 use Rattle.insert_places.proofs.bridge.Tie as tie
 

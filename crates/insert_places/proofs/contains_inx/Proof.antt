@@ -4,7 +4,7 @@ use borrow.Author.Needs.{needs}
 use Rattle.definitions.proofs.Tests.{tests}
 use Rattle.definitions.proofs.Slots.{allocated-past}
 use Rattle.definitions.specs.Insert.{isThere}
-use Rattle.insert_places.proofs.Named.{zero-no-link, within-link}
+use Rattle.insert_places.proofs.Parts.{zero-no-link, within-link}
 use Rattle.insert_places.specs.Places.{thereIn}
 use Rattle.insert_places.proofs.contains_inx.Statement.{statement}
 use Rattle.insert_places.proofs.contains_inx.Tie as tie

@@ -1,11 +1,11 @@
--- `insert_places::check_link_insert_kind` meets its contract. Each kind finds the links that it names, by pointer or by slot, and what it asks of them; a link that is there stands
+-- `insert_check::check_link_insert_kind` meets its contract. Each kind finds the links that it names, by pointer or by slot, and what it asks of them; a link that is there stands
 -- in the columns. Assumes nothing.
 use mathlib.Core.Path.{refl}
 use borrow.Author.Needs.{needs}
 use Rattle.definitions.specs.Insert.{slotOf, placeOf}
-use Rattle.insert_places.proofs.Named.{in-prev, in-next, first-in-next, second-in-prev, at-end, at-start, behind, in-front, at-joint, bridged}
-use Rattle.insert_places.proofs.check_link_insert_kind.Statement.{statement}
-use Rattle.insert_places.proofs.check_link_insert_kind.Tie as tie
+use Rattle.insert_check.proofs.Named.{in-prev, in-next, first-in-next, second-in-prev, at-end, at-start, behind, in-front, at-joint, bridged}
+use Rattle.insert_check.proofs.check_link_insert_kind.Statement.{statement}
+use Rattle.insert_check.proofs.check_link_insert_kind.Tie as tie
 
 -- ---- what each part asks of the links that were found
 

@@ -47,29 +47,6 @@ module _ (limit : ℕ) (a : Arena) (ok : Shaped limit a) (p q : Named) (x y r : 
 
   pub second-in-prev : Standing r (slotOf q) (a .prev)
   second-in-prev h = in-prev limit a ok q y second (both-second x y (sym two ∙ h))
-
--- ---- the tests of `contains_inx` and `bridge`
-
-pub zero-no-link : (gs : List ℕ) (n : ℕ) {s : ℕ} → s ≡ 0 → allocated gs n s ≡ false
-zero-no-link gs n {s} z = allocated-free gs n s (rw z (at-zero gs))
-
-pub within-link : (gs : List ℕ) (n s : ℕ) {g : ℕ} → s ≤ n → g ≡ at gs s → not (eqb g 0) ≡ allocated gs n s
-unfolding allocated
-within-link gs n s l e = rw (e, le-leb s n l) refl
-
-pub both-lack : (there next prev first second : Bool) → first ≡ there && next → first ≡ true → second ≡ there && prev → (there && (next && prev)) ≡ second
-both-lack true true prev first second e h f = sym f
-both-lack true false prev first second e h f = absurd (true≢false (sym h ∙ e))
-both-lack false next prev first second e h f = absurd (true≢false (sym h ∙ e))
-
-pub one-has : (there : Bool) (ns ps : List ℕ) (s t : ℕ) (first : Bool) → first ≡ there && eqb (at ns s) 0 → first ≡ false
-    → nowhere ≡ placeIf (there && (eqb (at ns s) 0 && eqb (at ps t) 0)) s t
-one-has there ns ps s t first e h = go there (eqb (at ns s) 0) (eqb (at ps t) 0) (sym e ∙ h)
-  where
-    go : (there next prev : Bool) → (there && next) ≡ false → nowhere ≡ placeIf (there && (next && prev)) s t
-    go true true prev e = absurd (true≢false e)
-    go true false prev e = unfold placeIf in refl
-    go false next prev e = unfold placeIf in refl
 
 -- ---- the place of each kind. A kind with one link is given what was found of it, `there`
 
