@@ -277,6 +277,31 @@ pub fn mixed_commands(r: &mut Random, a: &Arena, commands: usize, tide: Tide, fi
     words
 }
 
+/// The words of a run that fills an empty arena: one chain, each link behind the last, or links of every kind, each of them
+/// anywhere among those that are there.
+pub fn growth(r: &mut Random, a: &Arena, of_every_kind: bool) -> Vec<u32> {
+    let mut a = a.clone();
+    let mut words = Vec::new();
+    while a.links() < a.capacity() {
+        let mut link =
+            || if a.links() == 0 { Ptr { slot: 1, generation: 1 } } else { a.ptr(1 + r.below(a.links())) };
+        let (p, q) = (link(), link());
+        let command = if of_every_kind {
+            let kind = known_kind(r);
+            let (p, q) = some_place(r, &a, kind, p, q);
+            command(kind, p, q, r.word())
+        } else if a.links() == 0 {
+            command(kind::DISCONNECTED, p, q, r.word())
+        } else {
+            command(kind::CHAIN_END, a.ptr(a.links()), q, r.word())
+        };
+        if model::apply(&mut a, &command) == 0 {
+            words.extend(command);
+        }
+    }
+    words
+}
+
 /// The code of an edit that can be done with two links: a connect if it fits, else one of the others.
 fn fitting_code(r: &mut Random, a: &Arena, p: Ptr, q: Ptr) -> Option<u32> {
     let has = |column: &[u16], p: Ptr| column[p.slot as usize - 1] != 0;
