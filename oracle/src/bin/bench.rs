@@ -137,7 +137,7 @@ fn done_of(arena: &Arena, commands: &[u32]) -> String {
     let refusals = refusals(arena, commands);
     match refusals.iter().sum() {
         0 => "all of them done".to_string(),
-        refused => format!("any links, {} % refused", 100 * refused as usize / refusals.len()),
+        refused => format!("any links, {:.0} % refused", 100.0 * f64::from(refused) / refusals.len() as f64),
     }
 }
 
