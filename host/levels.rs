@@ -28,6 +28,7 @@ pub const LEVELS: &[Level] = &[
             "chain_arena_break_prev",
             "chain_arena_break_next",
             "chain_arena_exchange_next",
+            "chain_arena_insert",
             "chain_arena_remove",
             "chain_arena_drain",
             "chain_arena_set_generation",

@@ -46,8 +46,12 @@
  *                                  drain, run, compress_with, compress_canonical
  *      15  GENERATION_TOO_LOW    generation 0 or 1 was to be set
  *                                  set_generation
- *      16  COMMAND               the command words are no whole commands, or the code of a command is unknown
- *                                  run; in the answers of run
+ *      16  COMMAND               the command words are no whole commands, or a code or a kind of insertion is unknown
+ *                                  insert, run; in the answers of run
+ *      17  LINK_REQUIREMENT      what a kind of insertion asks does not hold, or one of its pointers is stale
+ *                                  insert; in the answers of run
+ *      18  NOT_WITHIN_CAPACITY   there is no room for a link: the stack fills the capacity, and no slot is free
+ *                                  insert; in the answers of run
  *     100  OVERFLOWED            nothing is wrong: done, and the current generation overflowed
  *                                  remove, inc_generation, compress_with, compress_canonical; in the answers of run
  */
@@ -75,20 +79,48 @@
 #define CHAIN_ARENA_REFUSED_SLICE_LENGTH         14u
 #define CHAIN_ARENA_REFUSED_GENERATION_TOO_LOW   15u
 #define CHAIN_ARENA_REFUSED_COMMAND              16u
+#define CHAIN_ARENA_REFUSED_LINK_REQUIREMENT     17u
+#define CHAIN_ARENA_REFUSED_NOT_WITHIN_CAPACITY  18u
 #define CHAIN_ARENA_OVERFLOWED                   100u
 
 /* How many words the header, a command, the item of a drain and the item of an order-preserving compression have. */
 #define CHAIN_ARENA_HEADER_WORDS 4u
-#define CHAIN_ARENA_COMMAND_WORDS 5u
+#define CHAIN_ARENA_COMMAND_WORDS 6u
 #define CHAIN_ARENA_DRAIN_WORDS 5u
 #define CHAIN_ARENA_COMPRESS_WORDS 4u
 
-/* The codes of commands; chain_arena_run tells what each does. */
+/* The codes of commands; chain_arena_run tells what each does. The kinds of insertion below are codes too. */
 #define CHAIN_ARENA_COMMAND_CONNECT 1u
 #define CHAIN_ARENA_COMMAND_BREAK_PREV 2u
 #define CHAIN_ARENA_COMMAND_BREAK_NEXT 3u
 #define CHAIN_ARENA_COMMAND_EXCHANGE_NEXT 4u
 #define CHAIN_ARENA_COMMAND_REMOVE 5u
+
+/* The kinds of insertion. A kind names links, p and q, by pointers, which must be good; or, if it ends in INX, by slots, which
+ * must hold links, and no generation is looked at. (Insert)
+ *   kind                names   asks beside that               the new link stands
+ *   DISCONNECTED                                               alone
+ *   SINGLE_LINK_CYCLIC                                         alone, its own prev and next
+ *   CHAIN_END           p       p has no next                  behind p
+ *   CHAIN_START         p       p has no prev                  before p
+ *   NEXT_TO             p                                      between p and its next, if it has one
+ *   PREV_TO             p                                      between p and its prev, if it has one
+ *   AT_INTERLINK        p, q    the next of p is q             between p and q
+ *   BRIDGE              p, q    p has no next, q has no prev   between p and q */
+#define CHAIN_ARENA_INSERT_DISCONNECTED 6u
+#define CHAIN_ARENA_INSERT_SINGLE_LINK_CYCLIC 7u
+#define CHAIN_ARENA_INSERT_CHAIN_END 8u
+#define CHAIN_ARENA_INSERT_CHAIN_END_INX 9u
+#define CHAIN_ARENA_INSERT_CHAIN_START 10u
+#define CHAIN_ARENA_INSERT_CHAIN_START_INX 11u
+#define CHAIN_ARENA_INSERT_NEXT_TO 12u
+#define CHAIN_ARENA_INSERT_NEXT_TO_INX 13u
+#define CHAIN_ARENA_INSERT_PREV_TO 14u
+#define CHAIN_ARENA_INSERT_PREV_TO_INX 15u
+#define CHAIN_ARENA_INSERT_AT_INTERLINK 16u
+#define CHAIN_ARENA_INSERT_AT_INTERLINK_INX 17u
+#define CHAIN_ARENA_INSERT_BRIDGE 18u
+#define CHAIN_ARENA_INSERT_BRIDGE_INX 19u
 
 #ifdef __cplusplus
 extern "C" {
@@ -157,6 +189,14 @@ typedef struct chain_arena_drain_result {
     uint32_t items;
     uint32_t overflowed;
 } chain_arena_drain_result;
+
+/* The pointer of a link that was inserted. */
+typedef struct chain_arena_insert_result {
+    uint32_t number;
+    uint32_t broken;
+    uint32_t slot;
+    uint32_t generation;
+} chain_arena_insert_result;
 
 /* Level One: liblevel_one.a */
 
@@ -253,6 +293,20 @@ chain_arena_plain_result chain_arena_exchange_next(
     const uint32_t *header, size_t header_len,
     uint16_t p0_slot, uint32_t p0_generation, uint16_t p1_slot, uint32_t p1_generation);
 
+/* Inserts a link with a payload where the kind says, CHAIN_ARENA_INSERT_.., and answers its pointer. A pointer that the kind
+ * does not name is ignored. The slot is the freelist's root, or the one after the stack if no slot is free; the generation
+ * is the current one, which stays. 16: there is no such kind; 17: what it asks does not hold; 18: there is no room.
+ * (Insert) */
+chain_arena_insert_result chain_arena_insert(
+    uint16_t *prev, size_t prev_len,
+    uint16_t *next, size_t next_len,
+    uint32_t *generation, size_t generation_len,
+    uint32_t *payload, size_t payload_len,
+    uint32_t *header, size_t header_len,
+    uint32_t kind,
+    uint16_t p_slot, uint32_t p_generation, uint16_t q_slot, uint32_t q_generation,
+    uint32_t new_payload);
+
 /* Takes the link at p out, joins its neighbours, raises the generation (100: it overflowed) and answers what the link was.
  * 12: p is stale. (Remove) */
 chain_arena_link_no_gen_result chain_arena_remove(
@@ -299,15 +353,16 @@ chain_arena_plain_result chain_arena_canonicalize_freelist(
     uint32_t *payload, size_t payload_len,
     uint32_t *header, size_t header_len);
 
-/* Applies a list of edits after one check. A command is five words: its code, then slot and generation of two pointers.
- *   1   connect: the link at the first becomes the prev of the link at the second
- *   2   break prev, at the first; the second is ignored
- *   3   break next, at the first; the second is ignored
- *   4   exchange next, of both
- *   5   remove the link at the first; the second is ignored
- * The answer word of a command is the number that the edit's own call would give, or 16 for an unknown code. After a
- * command that is refused the next one is applied all the same. Of the whole run 16: the number of command words is not
- * divisible by five; 14: there are more commands than answer words. (Run) */
+/* Applies a list of edits after one check. A command is six words: its code, slot and generation of two pointers, a payload.
+ *   1         connect: the link at the first becomes the prev of the link at the second
+ *   2         break prev, at the first
+ *   3         break next, at the first
+ *   4         exchange next, of both
+ *   5         remove the link at the first
+ *   6 to 19   insert a link with the payload; the code is the kind, CHAIN_ARENA_INSERT_.., the first is p, the second q
+ * Words that an edit does not need are ignored. The answer word of a command is the number that the edit's own call would
+ * give, or 16 for an unknown code. After a command that is refused the next one is applied all the same. Of the whole run
+ * 16: the number of command words is not divisible by six; 14: there are more commands than answer words. (Run) */
 chain_arena_plain_result chain_arena_run(
     uint16_t *prev, size_t prev_len,
     uint16_t *next, size_t next_len,

@@ -69,7 +69,7 @@ pub struct Header {
     pub link_count: u32,
     /// The first slot of the freelist, 0 for none
     pub root: u32,
-    /// The current generation, which is given to links by compressions and raised by removals
+    /// The current generation, which insertions and compressions give to links, and which removals raise
     pub generation: u32,
 }
 

@@ -2,7 +2,7 @@
 
 use crate::ffi::PlainResult;
 use crate::link::answered_slot;
-use crate::{Answers, ArenaMut, Done, LinkNoGen, Ptr, Refusal, Run, Slot};
+use crate::{Answers, ArenaMut, Done, LinkInsertKind, LinkNoGen, Ptr, Refusal, Run, Slot};
 
 /// The calls of Level Two. Each begins with the check and gives its refusal, 1 to 11; a refused call has written nothing.
 ///
@@ -83,6 +83,29 @@ impl ArenaMut<'_> {
         )))
     }
 
+    /// Inserts a link with a payload, and answers its pointer. It gets the freelist's root as its slot if there is one, else
+    /// the slot after the stack, and the current generation, which stays.
+    ///
+    /// # Errors
+    ///
+    /// 1 to 11 as `Arena::check`, then 17 if what the kind asks does not hold, a stale pointer included, then 18 if the stack
+    /// fills the capacity and no slot is free.
+    pub fn insert(&mut self, kind: LinkInsertKind, payload: u32) -> Result<Ptr, Refusal> {
+        let [p, q] = kind.pointers();
+        let answer = call!(chain_arena_insert(
+            self,
+            as_mut_ptr,
+            kind.code(),
+            p.slot,
+            p.generation,
+            q.slot,
+            q.generation,
+            payload
+        ));
+        Done::plain(answer.number, answer.broken)?;
+        Ok(Ptr { slot: answer.slot as Slot, generation: answer.generation })
+    }
+
     /// Takes the link at `p` out and joins its neighbours.
     ///
     /// # Errors
@@ -148,21 +171,21 @@ impl ArenaMut<'_> {
     ///
     /// # Errors
     ///
-    /// 1 to 11 as `Arena::check`. What is refused of a command is in its answer: 12 or 13.
+    /// 1 to 11 as `Arena::check`. What is refused of a command is in its answer: 12, 13, 17 or 18.
     pub fn run<'r>(&mut self, run: &'r mut Run<'_>) -> Result<Answers<'r>, Refusal> {
         let (commands, answers) = run.lent();
         self.run_words(commands.as_flattened(), answers)?;
         Ok(Answers::new(commands, answers))
     }
 
-    /// Applies commands that are words already: five for each, as [`Command::words`](crate::Command::words) makes them. Each
+    /// Applies commands that are words already: six for each, as [`Command::words`](crate::Command::words) makes them. Each
     /// gets one answer word, which [`Done::answer`] reads.
     ///
     /// # Errors
     ///
-    /// 1 to 11 as `Arena::check`, then 16 if the number of words is not divisible by five, then 14 if there
-    /// are fewer answer words than commands. What is refused of a command is in its answer word: 12, 13, or 16 for an unknown
-    /// code.
+    /// 1 to 11 as `Arena::check`, then 16 if the number of words is not divisible by six, then 14 if there
+    /// are fewer answer words than commands. What is refused of a command is in its answer word: 12, 13, 17, 18, or 16 for an
+    /// unknown code.
     pub fn run_words(&mut self, commands: &[u32], answers: &mut [u32]) -> Result<(), Refusal> {
         plain(call!(chain_arena_run(
             self,

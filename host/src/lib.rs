@@ -90,6 +90,8 @@ mod arena;
 mod checked;
 #[expect(missing_docs, reason = "the words of a result are named as the calls name them")]
 pub mod ffi;
+#[cfg(feature = "level-two")]
+mod insert;
 #[cfg(feature = "level-one")]
 mod level_one;
 #[cfg(feature = "level-three")]
@@ -108,6 +110,8 @@ mod walk;
 pub use arena::{Arena, ArenaMut, Header};
 #[cfg(feature = "level-one")]
 pub use checked::{Chain, Chains, Checked, Links};
+#[cfg(feature = "level-two")]
+pub use insert::LinkInsertKind;
 #[cfg(feature = "level-three")]
 pub use level_three::{CompressedCanonical, CompressedWith, Moved, NewGeneration};
 #[cfg(feature = "level-two")]

@@ -11,10 +11,14 @@ use crate::{Arena, ArenaMut, Header, Slot};
 /// ```
 /// use chain_arena::OwnedArena;
 ///
-/// let empty = OwnedArena::empty(3);
-/// assert_eq!((empty.prev.len(), empty.capacity()), (3, 3));
+/// let mut arena = OwnedArena::empty(3);
+/// assert_eq!((arena.prev.len(), arena.capacity()), (3, 3));
 /// # #[cfg(feature = "level-one")]
-/// assert!(empty.checked()?.is_empty());
+/// assert!(arena.checked()?.is_empty());
+/// # #[cfg(feature = "level-two")] {
+/// arena.as_arena_mut().insert(chain_arena::LinkInsertKind::Disconnected, 10)?;
+/// assert_eq!(arena.payload, [10, 0, 0]);
+/// # }
 /// # Ok::<(), chain_arena::Refusal>(())
 /// ```
 #[derive(Clone, Debug, PartialEq, Eq, Hash)]

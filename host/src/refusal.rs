@@ -116,7 +116,9 @@ kinds! {
     13 Neighbor "a neighbour is in the way, or one is missing"
     14 SliceLength "the slice to be filled is too short, or the where-from column has not the columns' length"
     15 GenerationTooLow "generation 0 or 1 was to be set"
-    16 Command "the command words are no whole commands, or the code of a command is unknown"
+    16 Command "the command words are no whole commands, or a code or a kind of insertion is unknown"
+    17 LinkRequirement "what a kind of insertion asks does not hold, or one of its pointers is stale"
+    18 NotWithinCapacity "there is no room for a link: the stack fills the capacity, and no slot is free"
 }
 
 impl fmt::Display for RefusalKind {

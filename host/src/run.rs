@@ -5,7 +5,7 @@ use core::fmt;
 use core::iter::{FusedIterator, Zip};
 use core::slice;
 
-use crate::{Done, Ptr, Refusal, Slot};
+use crate::{Done, LinkInsertKind, Ptr, Refusal, Slot};
 
 /// One edit of a run.
 #[derive(Clone, Copy, Debug, PartialEq, Eq)]
@@ -20,30 +20,37 @@ pub enum Command {
     ExchangeNext(Ptr, Ptr),
     /// Takes the link out.
     Remove(Ptr),
+    /// Inserts a link with this payload. The answer does not say where it is: it has the slot and the generation that
+    /// [`ArenaMut::insert`](crate::ArenaMut::insert) would answer at that moment.
+    Insert(LinkInsertKind, u32),
 }
 
 impl Command {
     /// How many words a command is.
-    pub const WORDS: usize = 5;
+    pub const WORDS: usize = 6;
 
-    /// The words of the command: its code, then slot and generation of two pointers.
+    /// The words of the command: its code, slot and generation of two pointers, a payload. What it does not have is 0.
     #[must_use]
     pub fn words(self) -> [u32; Self::WORDS] {
         const NONE: Ptr = Ptr { slot: 0, generation: 0 };
-        let (code, p, q) = match self {
-            Self::Connect(p, q) => (1, p, q),
-            Self::BreakPrev(p) => (2, p, NONE),
-            Self::BreakNext(p) => (3, p, NONE),
-            Self::ExchangeNext(p, q) => (4, p, q),
-            Self::Remove(p) => (5, p, NONE),
+        let (code, [p, q], payload) = match self {
+            Self::Connect(p, q) => (1, [p, q], 0),
+            Self::BreakPrev(p) => (2, [p, NONE], 0),
+            Self::BreakNext(p) => (3, [p, NONE], 0),
+            Self::ExchangeNext(p, q) => (4, [p, q], 0),
+            Self::Remove(p) => (5, [p, NONE], 0),
+            Self::Insert(kind, payload) => (kind.code(), kind.pointers(), payload),
         };
-        [code, p.slot.into(), p.generation, q.slot.into(), q.generation]
+        [code, p.slot.into(), p.generation, q.slot.into(), q.generation, payload]
     }
 
     /// The command whose words these are.
-    fn of([code, p, p_generation, q, q_generation]: [u32; Self::WORDS]) -> Self {
+    fn of([code, p, p_generation, q, q_generation, payload]: [u32; Self::WORDS]) -> Self {
         let p = Ptr { slot: p as Slot, generation: p_generation };
         let q = Ptr { slot: q as Slot, generation: q_generation };
+        if let Some(kind) = LinkInsertKind::of(code, p, q) {
+            return Self::Insert(kind, payload);
+        }
         match code {
             1 => Self::Connect(p, q),
             2 => Self::BreakPrev(p),
@@ -171,6 +178,15 @@ impl<'a> Run<'a> {
         self.push(Command::Remove(p))
     }
 
+    /// Adds [`Command::Insert`].
+    ///
+    /// # Errors
+    ///
+    /// [`Full`] if there is no room for it.
+    pub fn insert(&mut self, kind: LinkInsertKind, payload: u32) -> Result<&mut Self, Full> {
+        self.push(Command::Insert(kind, payload))
+    }
+
     /// The commands that it has, and the answer words for them.
     pub(crate) fn lent(&mut self) -> (&[[u32; Command::WORDS]], &mut [u32]) {
         (&self.commands[..self.len], &mut self.answers[..self.len])
@@ -182,7 +198,7 @@ impl<'a> Run<'a> {
 pub struct Answer {
     /// The command
     pub command: Command,
-    /// Done, or refused with 12 or 13
+    /// Done, or refused with 12, 13, 17 or 18
     pub result: Result<Done, Refusal>,
 }
 

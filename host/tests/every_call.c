@@ -58,6 +58,11 @@ static void break_prev(arguments *a) { PLAIN(chain_arena_break_prev(ARENA, POINT
 static void break_next(arguments *a) { PLAIN(chain_arena_break_next(ARENA, POINTER(0))); }
 static void exchange_next(arguments *a) { PLAIN(chain_arena_exchange_next(ARENA, POINTER(0), POINTER(1))); }
 
+static void insert(arguments *a) {
+    chain_arena_insert_result r = chain_arena_insert(ARENA, a->word[0], a->slot[0], a->word[1], a->slot[1], a->word[2], a->word[3]);
+    ANSWER(r); FIELD(r, slot); FIELD(r, generation);
+}
+
 static void remove_link(arguments *a) {
     chain_arena_link_no_gen_result r = chain_arena_remove(ARENA, POINTER(0));
     ANSWER(r); FIELD(r, prev); FIELD(r, next); FIELD(r, payload);
@@ -88,7 +93,7 @@ typedef struct {
     uint16_t slot[2];
     uint32_t word[4];
     size_t lent;
-    uint32_t first[16];
+    uint32_t first[18];
 } call;
 
 static const call calls[] = {
@@ -105,12 +110,13 @@ static const call calls[] = {
     {"break_prev", break_prev, {2, 3, 1, 1}, {4}, {7}, 0, {0}},
     {"break_next", break_next, {2, 3, 1, 1}, {1}, {5}, 0, {0}},
     {"exchange_next", exchange_next, {2, 3, 2, 2}, {1, 2}, {5, 6}, 0, {0}},
+    {"insert", insert, {2, 3, 2, 4}, {1, 2}, {CHAIN_ARENA_INSERT_AT_INTERLINK, 5, 6, 60}, 0, {0}},
     {"remove", remove_link, {2, 3, 1, 1}, {2}, {6}, 0, {0}},
     {"drain", drain, {2, 4, 1, 1}, {2}, {6}, 16, {0}},
     {"set_generation", set_generation, {2, 3, 0, 1}, {0}, {12}, 0, {0}},
     {"inc_generation", inc_generation, {2, 3, 0, 0}, {0}, {0}, 0, {0}},
     {"canonicalize_freelist", canonicalize_freelist, {2, 3, 0, 0}, {0}, {0}, 0, {0}},
-    {"run", run, {2, 5, 0, 0}, {0}, {0}, 10, {1, 4, 7, 5, 9, 5, 2, 6, 0, 0}},
+    {"run", run, {2, 5, 0, 0}, {0}, {0}, 18, {1, 4, 7, 5, 9, 0, 5, 2, 6, 0, 0, 0, 18, 5, 9, 1, 5, 60}},
 #endif
 #ifdef LEVEL_THREE
     {"compress_with", compress_with, {2, 4, 0, 1}, {0}, {1}, 16, {0}},
@@ -134,11 +140,11 @@ static void exchange(arguments *a, int kind, int i, int j) {
 static void make(const call *c, int broken, int kind, int i, int j) {
     uint16_t prev[6] = {0, 1, 99, 2, 0, 99}, next[6] = {2, 4, 3, 0, 0, 99}, where_from[6] = {77, 77, 77, 77, 77, 77};
     uint32_t generation[6] = {5, 6, 0, 7, 9, 99}, payload[6] = {10, 20, 99, 40, 50, 99}, header[4] = {5, 4, 3, 11};
-    uint32_t first[16], answers[2] = {88, 88};
+    uint32_t first[18], answers[3] = {88, 88, 88};
     memcpy(first, c->first, sizeof first);
     if (broken) prev[4] = 1;
     arguments a = {{{prev, 6}, {next, 6}, {where_from, 6}},
-                   {{generation, 6}, {payload, 6}, {header, 4}, {first, c->lent}, {answers, 2}},
+                   {{generation, 6}, {payload, 6}, {header, 4}, {first, c->lent}, {answers, 3}},
                    {c->slot[0], c->slot[1]},
                    {c->word[0], c->word[1], c->word[2], c->word[3]}};
     exchange(&a, kind, i, j);

@@ -120,7 +120,7 @@ fn each_refusal_has_its_kind_and_its_constant() {
 #[cfg(feature = "level-two")]
 #[test]
 fn the_codes_and_word_counts_are_those_of_the_wrapper() {
-    use chain_arena::{Command, Header, Ptr};
+    use chain_arena::{Command, Header, LinkInsertKind, Ptr};
     let p = Ptr { slot: 1, generation: 2 };
     let commands = [
         Command::Connect(p, p),
@@ -129,12 +129,45 @@ fn the_codes_and_word_counts_are_those_of_the_wrapper() {
         Command::ExchangeNext(p, p),
         Command::Remove(p),
     ];
-    let name = |command: &Command| shouted(format!("{command:?}").split('(').next().unwrap());
-    let codes = commands.iter().map(|command| (command.words()[0], name(command)));
+    let name = |debug: String| shouted(debug.split(['(', ' ']).next().unwrap());
+    let codes = commands.iter().map(|command| (command.words()[0], name(format!("{command:?}"))));
     let (words, constants): (Vec<_>, Vec<_>) =
         constants("CHAIN_ARENA_COMMAND_").into_iter().partition(|(_, name)| name == "WORDS");
     assert!(constants.into_iter().eq(codes));
     assert_eq!(words, [(Command::WORDS as u32, "WORDS".to_string())]);
+    let kinds = [
+        LinkInsertKind::Disconnected,
+        LinkInsertKind::SingleLinkCyclic,
+        LinkInsertKind::ChainEnd(p),
+        LinkInsertKind::ChainEndInx(1),
+        LinkInsertKind::ChainStart(p),
+        LinkInsertKind::ChainStartInx(1),
+        LinkInsertKind::NextTo(p),
+        LinkInsertKind::NextToInx(1),
+        LinkInsertKind::PrevTo(p),
+        LinkInsertKind::PrevToInx(1),
+        LinkInsertKind::AtInterlink { next_to: p, prev_to: p },
+        LinkInsertKind::AtInterlinkInx { next_to: 1, prev_to: 1 },
+        LinkInsertKind::Bridge { end: p, start: p },
+        LinkInsertKind::BridgeInx { end: 1, start: 1 },
+    ];
+    let codes = kinds.map(|kind| (kind.code(), name(format!("{kind:?}"))));
+    assert_eq!(self::constants("CHAIN_ARENA_INSERT_"), codes);
+    for kind in kinds {
+        assert_eq!(Command::Insert(kind, 9).words()[0], kind.code());
+    }
+    let manual = read("docs/REFERENCE.md");
+    let (_, table) = manual.split_once("| code | kind |").unwrap();
+    let rows = table.lines().skip(2).take_while(|line| line.starts_with('|'));
+    let told = rows.flat_map(|row| {
+        let cells: Vec<Vec<String>> = row
+            .split('|')
+            .map(|cell| cell.split(", ").map(|word| word.trim().replace('`', "")).collect())
+            .collect();
+        let pairs = cells[1].iter().zip(&cells[2]);
+        pairs.map(|(code, name)| (code.parse().unwrap(), shouted(name))).collect::<Vec<(u32, String)>>()
+    });
+    assert!(told.eq(codes), "REFERENCE has the kinds in a table");
     assert_eq!(self::constants("CHAIN_ARENA_HEADER_"), [(Header::WORDS as u32, "WORDS".to_string())]);
     let drained = chain_arena::DrainedLink::WORDS as u32;
     assert_eq!(self::constants("CHAIN_ARENA_DRAIN_"), [(drained, "WORDS".to_string())]);
@@ -147,14 +180,14 @@ fn the_words_of_a_moved_link_are_those_of_the_wrapper() {
     assert_eq!(constants("CHAIN_ARENA_COMPRESS_"), [(moved, "WORDS".to_string())]);
 }
 
-/// The numbers from 12 to 16 in the comment that stands above a declaration.
+/// The numbers from 12 to 18 in the comment that stands above a declaration.
 fn above(source: &str, declaration: &str) -> BTreeSet<u32> {
     let start = source.find(declaration).unwrap_or_else(|| panic!("{declaration} is not there"));
     let comment = |line: &&str| ["/*", " *", "    ///"].iter().any(|sign| line.starts_with(sign));
     let text: String = source[..start].trim_end().lines().rev().take_while(comment).collect();
     text.split(|c: char| !c.is_ascii_digit())
         .filter_map(|word| word.parse().ok())
-        .filter(|n| (12..=16).contains(n))
+        .filter(|n| (12..=18).contains(n))
         .collect()
 }
 
@@ -203,7 +236,7 @@ fn documented(source: &str, method: &str, checks: bool) -> Vec<u32> {
 }
 
 /// What each call refuses of its own, in its order (REFERENCE, the call's section).
-const ORDER: [(&str, &[u32]); 18] = [
+const ORDER: [(&str, &[u32]); 19] = [
     ("check", &[]),
     ("get_link", &[12]),
     ("get_link_no_gen", &[12]),
@@ -214,6 +247,7 @@ const ORDER: [(&str, &[u32]); 18] = [
     ("break_prev", &[12, 13]),
     ("break_next", &[12, 13]),
     ("exchange_next", &[12, 13]),
+    ("insert", &[16, 17, 18]),
     ("remove", &[12]),
     ("drain", &[12, 14]),
     ("set_generation", &[15]),
@@ -248,7 +282,9 @@ fn each_method_tells_the_numbers_of_its_call() {
             "drain" | "compress_with" | "compress_canonical" => &format!("{call}<"),
             _ => &format!("{call}("),
         };
-        assert_eq!(documented(&source, method, true), order, "{call}");
+        // a kind that Rust has typed is never unknown
+        let told = if call == "insert" { &order[1..] } else { order };
+        assert_eq!(documented(&source, method, true), told, "{call}");
     }
 }
 
@@ -259,8 +295,8 @@ fn each_method_that_is_no_call_tells_its_numbers() {
     assert_eq!(documented(&one, "walk(", true), [12]);
     assert_eq!(documented(&one, "walk_from(", true), []);
     assert_eq!(documented(&two, "run<", true), []);
-    assert!(two.contains("What is refused of a command is in its answer: 12 or 13."));
-    assert!(two.contains("is in its answer word: 12, 13, or 16 for an unknown"));
+    assert!(two.contains("What is refused of a command is in its answer: 12, 13, 17 or 18."));
+    assert!(two.contains("is in its answer word: 12, 13, 17, 18, or 16 for an"));
     assert_eq!(documented(&view, "checked(&self) -> Result<Checked<'a>", true), []);
     assert_eq!(documented(&view, "checked(&self) -> Result<Checked<'_>", true), []);
     for method in ["link(", "link_no_gen(", "payload(", "prev(", "next(", "chain(", "chain_from_first("] {

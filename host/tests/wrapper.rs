@@ -73,10 +73,10 @@ fn every_number_has_its_name_and_words() {
         assert!(!seen.contains(&words));
         seen.push(words);
     }
-    assert_eq!(seen.len(), 16);
+    assert_eq!(seen.len(), 18);
     assert_eq!(Done::answer(0), Ok(Done { overflowed: false }));
     assert_eq!(Done::answer(100), Ok(Done { overflowed: true }));
-    for number in [17, 99, 101, u32::MAX] {
+    for number in [19, 99, 101, u32::MAX] {
         let refusal = Done::answer(number).unwrap_err();
         assert_eq!((refusal.kind(), refusal.number()), (RefusalKind::Unknown, number));
         assert_eq!(
@@ -266,7 +266,8 @@ mod level_one {
 
 #[cfg(feature = "level-two")]
 mod level_two {
-    use chain_arena::{Answer, Command, DrainedLink, Full, LinkNoGen, Removed, Run};
+    use chain_arena::ffi::{InsertResult, chain_arena_insert};
+    use chain_arena::{Answer, Command, DrainedLink, Full, LinkInsertKind, LinkNoGen, Removed, Run};
 
     use super::*;
 
@@ -372,23 +373,473 @@ mod level_two {
         let mut columns = sample();
         let mut arena = columns.as_arena_mut();
         let mut answers = [9; 3];
-        let commands = [Command::Remove(p(4)).words(), [77; 5]];
+        let commands = [Command::Remove(p(4)).words(), [77; Command::WORDS]];
         assert_eq!(arena.run_words(commands.as_flattened(), &mut answers), Ok(()));
         assert_eq!(answers, [0, 16, 9]);
         assert_eq!(Done::answer(answers[1]).unwrap_err().number(), 16);
-        assert_eq!(arena.run_words(&[1; 6], &mut answers).unwrap_err().number(), 16);
-        assert_eq!(arena.run_words(&[1; 5], &mut []).unwrap_err().number(), 14);
+        assert_eq!(arena.run_words(&[1; 5], &mut answers).unwrap_err().number(), 16);
+        assert_eq!(arena.run_words(&[1; 6], &mut []).unwrap_err().number(), 14);
+    }
+
+    /// The kinds that name no link.
+    const ALONE: [LinkInsertKind; 2] = [LinkInsertKind::Disconnected, LinkInsertKind::SingleLinkCyclic];
+
+    /// The two kinds of a place, by pointers and by slots.
+    fn chain_end(p: Ptr) -> [LinkInsertKind; 2] {
+        [LinkInsertKind::ChainEnd(p), LinkInsertKind::ChainEndInx(p.slot)]
+    }
+
+    fn chain_start(p: Ptr) -> [LinkInsertKind; 2] {
+        [LinkInsertKind::ChainStart(p), LinkInsertKind::ChainStartInx(p.slot)]
+    }
+
+    fn next_to(p: Ptr) -> [LinkInsertKind; 2] {
+        [LinkInsertKind::NextTo(p), LinkInsertKind::NextToInx(p.slot)]
+    }
+
+    fn prev_to(p: Ptr) -> [LinkInsertKind; 2] {
+        [LinkInsertKind::PrevTo(p), LinkInsertKind::PrevToInx(p.slot)]
+    }
+
+    fn at_interlink(p: Ptr, q: Ptr) -> [LinkInsertKind; 2] {
+        [
+            LinkInsertKind::AtInterlink { next_to: p, prev_to: q },
+            LinkInsertKind::AtInterlinkInx { next_to: p.slot, prev_to: q.slot },
+        ]
+    }
+
+    fn bridge(p: Ptr, q: Ptr) -> [LinkInsertKind; 2] {
+        [
+            LinkInsertKind::Bridge { end: p, start: q },
+            LinkInsertKind::BridgeInx { end: p.slot, start: q.slot },
+        ]
+    }
+
+    /// All kinds that name these links, or the first of them, in the order of the codes from 8 on.
+    fn naming(p: Ptr, q: Ptr) -> [[LinkInsertKind; 2]; 6] {
+        [chain_end(p), chain_start(p), next_to(p), prev_to(p), at_interlink(p, q), bridge(p, q)]
+    }
+
+    /// What an insertion answers, and what it leaves of an arena; a run of it alone must do the same.
+    fn inserted(before: &OwnedArena, kind: LinkInsertKind) -> (Result<Ptr, u32>, OwnedArena) {
+        let (mut called, mut ran) = (before.clone(), before.clone());
+        let answer = called.as_arena_mut().insert(kind, 77).map_err(|refusal| refusal.number());
+        let (mut words, mut answers) = ([[9; Command::WORDS]; 1], [9; 1]);
+        let mut run = Run::new(&mut words, &mut answers);
+        run.insert(kind, 77).unwrap();
+        let found: Vec<Answer> = ran.as_arena_mut().run(&mut run).unwrap().collect();
+        let result = Done::answer(answer.err().unwrap_or(0));
+        assert_eq!(found, [Answer { command: Command::Insert(kind, 77), result }]);
+        assert_eq!(ran, called, "{kind:?}");
+        (answer, called)
+    }
+
+    #[test]
+    fn a_link_is_inserted_at_each_place() {
+        let [alone, closed] = ALONE;
+        // what prev and next become, with the new link in slot 3
+        let places = [
+            ([alone; 2], [0, 4, 0, 2, 1], [5, 4, 0, 2, 0]),
+            ([closed; 2], [0, 4, 3, 2, 1], [5, 4, 3, 2, 0]),
+            (chain_end(p(5)), [0, 4, 5, 2, 1], [5, 4, 0, 2, 3]),
+            (chain_start(p(1)), [3, 4, 0, 2, 1], [5, 4, 1, 2, 0]),
+            (next_to(p(1)), [0, 4, 1, 2, 3], [3, 4, 5, 2, 0]),
+            (next_to(p(5)), [0, 4, 5, 2, 1], [5, 4, 0, 2, 3]),
+            (next_to(p(2)), [0, 4, 2, 3, 1], [5, 3, 4, 2, 0]),
+            (prev_to(p(1)), [3, 4, 0, 2, 1], [5, 4, 1, 2, 0]),
+            (prev_to(p(5)), [0, 4, 1, 2, 3], [3, 4, 5, 2, 0]),
+            (prev_to(p(2)), [0, 3, 4, 2, 1], [5, 4, 2, 3, 0]),
+            (at_interlink(p(1), p(5)), [0, 4, 1, 2, 3], [3, 4, 5, 2, 0]),
+            (at_interlink(p(4), p(2)), [0, 3, 4, 2, 1], [5, 4, 2, 3, 0]),
+            (bridge(p(5), p(1)), [3, 4, 5, 2, 1], [5, 4, 1, 2, 3]),
+        ];
+        for (kinds, prev, next) in places {
+            let expected = OwnedArena {
+                prev: prev.to_vec(),
+                next: next.to_vec(),
+                generation: vec![5; 5],
+                payload: vec![10, 20, 77, 40, 50],
+                header: vec![5, 5, 0, 5],
+            };
+            for kind in kinds {
+                assert_eq!(inserted(&sample(), kind), (Ok(p(3)), expected.clone()), "{kind:?}");
+            }
+        }
+    }
+
+    #[test]
+    fn two_chains_are_bridged() {
+        // 2 -> 1 and 3 -> 4, and room for one more
+        let before = OwnedArena {
+            prev: vec![2, 0, 0, 3, 9],
+            next: vec![0, 1, 4, 0, 9],
+            generation: vec![5, 5, 5, 5, 9],
+            payload: vec![10, 20, 30, 40, 9],
+            header: vec![4, 4, 0, 5],
+        };
+        for kind in bridge(p(1), p(3)) {
+            let (answer, after) = inserted(&before, kind);
+            assert_eq!((answer, walked(&after, 2)), (Ok(p(5)), vec![2, 1, 5, 3, 4]));
+            assert_eq!((after.prev, after.next), (vec![2, 0, 5, 3, 1], vec![5, 1, 4, 0, 3]));
+        }
+    }
+
+    #[test]
+    fn a_closed_pair_comes_of_a_lone_link_and_of_one_that_is_closed_alone() {
+        let [.., at, bridged] = naming(p(1), p(1));
+        for (own, kinds) in [(0, vec![bridged]), (1, vec![next_to(p(1)), prev_to(p(1)), at])] {
+            let before = OwnedArena {
+                prev: vec![own, 9],
+                next: vec![own, 9],
+                generation: vec![5, 9],
+                payload: vec![10, 9],
+                header: vec![1, 1, 0, 6],
+            };
+            let expected = OwnedArena {
+                prev: vec![2, 1],
+                next: vec![2, 1],
+                generation: vec![5, 6],
+                payload: vec![10, 77],
+                header: vec![2, 2, 0, 6],
+            };
+            for kind in kinds.as_flattened() {
+                let answer = Ok(Ptr { slot: 2, generation: 6 });
+                assert_eq!(inserted(&before, *kind), (answer, expected.clone()), "{kind:?}");
+            }
+        }
+    }
+
+    #[test]
+    fn a_link_takes_the_root_and_where_there_is_none_the_slot_after_the_stack() {
+        // the link 2, the freelist 3, 1, and two slots above the stack
+        let mut columns = OwnedArena {
+            prev: vec![9, 0, 9, 9, 9],
+            next: vec![1, 0, 1, 9, 9],
+            generation: vec![0, 5, 0, 9, 9],
+            payload: vec![9, 20, 9, 9, 9],
+            header: vec![3, 1, 3, 7],
+        };
+        let mut arena = columns.as_arena_mut();
+        for (slot, header) in [(3, [3, 2, 1, 7]), (1, [3, 3, 0, 7]), (4, [4, 4, 0, 7])] {
+            let answer = arena.insert(LinkInsertKind::Disconnected, 10 * u32::from(slot));
+            assert_eq!(answer, Ok(Ptr { slot, generation: 7 }));
+            assert_eq!(*arena.header, header);
+        }
+        let expected = OwnedArena {
+            prev: vec![0, 0, 0, 0, 9],
+            next: vec![0, 0, 0, 0, 9],
+            generation: vec![7, 5, 7, 7, 9],
+            payload: vec![10, 20, 30, 40, 9],
+            header: vec![4, 4, 0, 7],
+        };
+        assert_eq!(columns, expected);
+    }
+
+    #[test]
+    fn an_insertion_that_is_refused_leaves_every_word() {
+        let refused =
+            |kind: LinkInsertKind| assert_eq!(inserted(&sample(), kind), (Err(17), sample()), "{kind:?}");
+        // slot 0, a free one, and two above the stack
+        for none in [p(0), p(3), p(6), p(u16::MAX)] {
+            naming(none, none).as_flattened().iter().for_each(|&kind| refused(kind));
+            let one =
+                [at_interlink(p(1), none), at_interlink(none, p(5)), bridge(p(5), none), bridge(none, p(1))];
+            one.as_flattened().iter().for_each(|&kind| refused(kind));
+        }
+        // links of another generation: kinds by slots are done all the same
+        let stale = |slot| Ptr { slot, generation: 4 };
+        for [by_pointers, by_slots] in [
+            chain_end(stale(5)),
+            chain_start(stale(1)),
+            next_to(stale(2)),
+            prev_to(stale(2)),
+            at_interlink(stale(1), p(5)),
+            at_interlink(p(1), stale(5)),
+            bridge(stale(5), p(1)),
+            bridge(p(5), stale(1)),
+        ] {
+            refused(by_pointers);
+            assert_eq!(inserted(&sample(), by_slots).0, Ok(p(3)), "{by_slots:?}");
+        }
+        // a neighbour where none may be, or none where the other link must be
+        for kinds in [
+            chain_end(p(1)),
+            chain_end(p(2)),
+            chain_start(p(5)),
+            chain_start(p(2)),
+            at_interlink(p(5), p(1)),
+            at_interlink(p(1), p(1)),
+            at_interlink(p(5), p(5)),
+            at_interlink(p(2), p(2)),
+            bridge(p(1), p(1)),
+            bridge(p(5), p(5)),
+            bridge(p(1), p(5)),
+            bridge(p(5), p(2)),
+            bridge(p(2), p(1)),
+        ] {
+            kinds.into_iter().for_each(refused);
+        }
+        let mut broken = sample();
+        broken.next[0] = 0;
+        let before = broken.clone();
+        for kind in [ALONE, chain_end(STALE)].as_flattened() {
+            let refusal = broken.as_arena_mut().insert(*kind, 77).unwrap_err();
+            assert_eq!((refusal.kind(), refusal.slot()), (RefusalKind::BrokenLink, Some(5)));
+        }
+        assert_eq!(broken, before);
+    }
+
+    #[test]
+    fn there_is_no_room_only_where_the_stack_fills_the_capacity_and_no_slot_is_free() {
+        // 1 -> 2
+        let full = OwnedArena {
+            prev: vec![0, 1],
+            next: vec![2, 0],
+            generation: vec![5, 5],
+            payload: vec![10, 20],
+            header: vec![2, 2, 0, 5],
+        };
+        let (one, two) = (p(1), p(2));
+        let fit = [
+            ALONE,
+            chain_end(two),
+            chain_start(one),
+            next_to(one),
+            prev_to(one),
+            at_interlink(one, two),
+            bridge(two, one),
+        ];
+        for kind in fit.as_flattened() {
+            assert_eq!(inserted(&full, *kind), (Err(18), full.clone()), "{kind:?}");
+        }
+        for kind in
+            [chain_end(one), chain_start(two), at_interlink(two, one), bridge(one, two)].as_flattened()
+        {
+            assert_eq!(inserted(&full, *kind), (Err(17), full.clone()), "{kind:?}");
+        }
+        let mut free = full.clone();
+        free.as_arena_mut().remove(one).unwrap();
+        for kind in [ALONE, chain_end(two), chain_start(two), bridge(two, two)].as_flattened() {
+            assert_eq!(inserted(&free, *kind).0, Ok(Ptr { slot: 1, generation: 6 }), "{kind:?}");
+        }
+        let none = OwnedArena::empty(0);
+        assert_eq!(ALONE.map(|kind| inserted(&none, kind).0), [Err(18); 2]);
+        assert_eq!(inserted(&none, LinkInsertKind::NextToInx(1)).0, Err(17));
+    }
+
+    /// The exported insertion, whose words are not held to be those of a kind.
+    fn insert_words(columns: &mut OwnedArena, kind: u32, p: Ptr, q: Ptr) -> InsertResult {
+        let OwnedArena { prev, next, generation, payload, header } = columns;
+        // Safety: each pointer and count are those of one vector, which nobody else has borrowed.
+        unsafe {
+            chain_arena_insert(
+                prev.as_mut_ptr(),
+                prev.len(),
+                next.as_mut_ptr(),
+                next.len(),
+                generation.as_mut_ptr(),
+                generation.len(),
+                payload.as_mut_ptr(),
+                payload.len(),
+                header.as_mut_ptr(),
+                header.len(),
+                kind,
+                p.slot,
+                p.generation,
+                q.slot,
+                q.generation,
+                77,
+            )
+        }
+    }
+
+    #[test]
+    fn an_unknown_kind_is_refused() {
+        let full = OwnedArena::empty(0);
+        for kind in [0, 1, 5, 20, 262, u32::MAX] {
+            for before in [&sample(), &full] {
+                let mut columns = before.clone();
+                let refused = InsertResult { number: 16, broken: 0, slot: 0, generation: 0 };
+                assert_eq!(insert_words(&mut columns, kind, p(1), p(5)), refused, "{kind}");
+                assert_eq!(columns, *before);
+            }
+        }
+        let mut broken = sample();
+        broken.header[3] = 1;
+        assert_eq!(insert_words(&mut broken, 20, p(1), p(5)).number, 2);
+    }
+
+    #[test]
+    fn what_a_kind_does_not_name_is_ignored() {
+        let fit = [
+            ALONE,
+            chain_end(p(5)),
+            chain_start(p(1)),
+            next_to(p(2)),
+            prev_to(p(2)),
+            at_interlink(p(1), p(5)),
+            bridge(p(5), p(1)),
+        ];
+        for kind in fit.as_flattened() {
+            let (code, pointers) = (kind.code(), kind.pointers());
+            for other in [p(0), p(1), Ptr { slot: u16::MAX, generation: u32::MAX }] {
+                let named = if code < 8 { 0 } else { 1 + usize::from(code > 15) };
+                let [a, b] = [0, 1].map(|k| match (k < named, code % 2) {
+                    (true, 0) => pointers[k],
+                    (true, _) => Ptr { generation: other.generation, ..pointers[k] },
+                    (false, _) => other,
+                });
+                let mut columns = sample();
+                let answer = insert_words(&mut columns, code, a, b);
+                assert_eq!(answer, InsertResult { number: 0, broken: 0, slot: 3, generation: 5 }, "{kind:?}");
+                assert_eq!(columns, inserted(&sample(), *kind).1, "{kind:?}");
+            }
+        }
+    }
+
+    #[test]
+    fn a_run_names_links_that_it_has_inserted() {
+        let mut columns = OwnedArena::empty(3);
+        let at = |slot, generation| Ptr { slot, generation };
+        let (mut words, mut answers) = ([[9; Command::WORDS]; 9], [9; 9]);
+        let mut run = Run::new(&mut words, &mut answers);
+        run.insert(LinkInsertKind::Disconnected, 10).unwrap();
+        run.insert(LinkInsertKind::ChainEnd(at(1, 2)), 20).unwrap();
+        run.insert(LinkInsertKind::AtInterlink { next_to: at(1, 2), prev_to: at(2, 2) }, 30).unwrap();
+        run.insert(LinkInsertKind::PrevToInx(1), 40).unwrap();
+        run.insert(LinkInsertKind::ChainStartInx(2), 40).unwrap();
+        run.remove(at(1, 2)).unwrap();
+        run.insert(LinkInsertKind::Bridge { end: at(2, 2), start: at(3, 2) }, 40).unwrap();
+        run.remove(at(1, 2)).unwrap().break_prev(at(1, 3)).unwrap();
+        let found = columns.as_arena_mut().run(&mut run).unwrap();
+        let numbers = found.map(|answer| answer.result.map_or_else(|refusal| refusal.number(), |_| 0));
+        assert_eq!(numbers.collect::<Vec<u32>>(), [0, 0, 0, 18, 17, 0, 0, 12, 0]);
+        let expected = OwnedArena {
+            prev: vec![0, 3, 1],
+            next: vec![3, 0, 2],
+            generation: vec![3, 2, 2],
+            payload: vec![40, 20, 30],
+            header: vec![3, 3, 0, 3],
+        };
+        assert_eq!(columns, expected);
+    }
+
+    #[test]
+    fn a_slot_over_65535_in_a_command_is_no_link() {
+        const OVER: u32 = 1 << 16;
+        let mut columns = sample();
+        let commands = [
+            [9, OVER + 5, 0, 0, 0, 77],
+            [10, OVER + 1, 5, 0, 0, 77],
+            [13, OVER + 1, 0, 0, 0, 77],
+            [14, OVER + 1, 5, 0, 0, 77],
+            [16, OVER + 1, 5, 5, 5, 77],
+            [17, 1, 0, OVER + 5, 0, 77],
+            [18, OVER + 5, 5, 1, 5, 77],
+            [19, 5, 0, OVER + 1, 0, 77],
+            [5, OVER + 5, 5, 0, 0, 77],
+        ];
+        let mut answers = [9; 9];
+        assert_eq!(columns.as_arena_mut().run_words(commands.as_flattened(), &mut answers), Ok(()));
+        assert_eq!(answers, [17, 17, 17, 17, 17, 17, 17, 17, 12]);
+        assert_eq!(columns, sample());
+        let ignored = [[6, OVER + 1, 5, OVER, 9, 77], [12, 1, 5, OVER, 9, 78], [20, 1, 5, 1, 5, 77]];
+        columns.prev.push(9);
+        columns.next.push(9);
+        columns.generation.push(9);
+        columns.payload.push(9);
+        let mut answers = [9; 3];
+        assert_eq!(columns.as_arena_mut().run_words(ignored.as_flattened(), &mut answers), Ok(()));
+        assert_eq!(answers, [0, 0, 16]);
+        assert_eq!((walked(&columns, 1), columns.payload), (vec![1, 6, 5], vec![10, 20, 77, 40, 50, 78]));
+    }
+
+    #[test]
+    fn a_command_is_told_as_it_was_given() {
+        let (p, q) = (Ptr { slot: 0xfedc, generation: u32::MAX }, Ptr { slot: 1, generation: 0x8000_0002 });
+        let kinds = [ALONE].into_iter().chain(naming(p, q)).flatten();
+        let inserting: Vec<Command> = kinds.map(|kind| Command::Insert(kind, 0x7fff_fff3)).collect();
+        assert!(inserting.iter().map(|command| command.words()[0]).eq(6..20));
+        let words = [18, 0xfedc, u32::MAX, 1, 0x8000_0002, 0x7fff_fff3];
+        assert_eq!(inserting[12].words(), words);
+        assert_eq!(inserting[13].words(), [19, 0xfedc, 0, 1, 0, 0x7fff_fff3]);
+        let mut commands = vec![
+            Command::Connect(p, q),
+            Command::BreakPrev(p),
+            Command::BreakNext(p),
+            Command::ExchangeNext(p, q),
+            Command::Remove(p),
+        ];
+        commands.extend(inserting);
+        let (mut words, mut answers) = ([[9; Command::WORDS]; 19], [9; 19]);
+        let mut run = Run::new(&mut words, &mut answers);
+        for command in &commands {
+            run.push(*command).unwrap();
+        }
+        let mut columns = sample();
+        let told = columns.as_arena_mut().run(&mut run).unwrap().map(|answer| answer.command);
+        assert_eq!(told.collect::<Vec<_>>(), commands);
+    }
+
+    #[test]
+    fn an_arena_is_grown_from_empty_emptied_and_grown_again() {
+        let mut columns = OwnedArena {
+            prev: vec![9; 6],
+            next: vec![9; 6],
+            generation: vec![9; 6],
+            payload: vec![9; 6],
+            header: vec![0, 0, 0, 2],
+        };
+        let mut arena = columns.as_arena_mut();
+        let a = arena.insert(LinkInsertKind::Disconnected, 10).unwrap();
+        let b = arena.insert(LinkInsertKind::ChainEnd(a), 20).unwrap();
+        let c = arena.insert(LinkInsertKind::ChainStart(a), 30).unwrap();
+        let d = arena.insert(LinkInsertKind::SingleLinkCyclic, 40).unwrap();
+        let e = arena.insert(LinkInsertKind::PrevTo(d), 50).unwrap();
+        let f = arena.insert(LinkInsertKind::AtInterlink { next_to: c, prev_to: a }, 60).unwrap();
+        assert_eq!([a, b, c, d, e, f], [1, 2, 3, 4, 5, 6].map(|slot| Ptr { slot, generation: 2 }));
+        let full = arena.insert(LinkInsertKind::Bridge { end: b, start: c }, 70).unwrap_err();
+        assert_eq!(full.kind(), RefusalKind::NotWithinCapacity);
+        assert_eq!((walked(&columns, 3), walked(&columns, 4)), (vec![3, 6, 1, 2], vec![4, 5]));
+        assert_eq!(columns.payload, [10, 20, 30, 40, 50, 60]);
+
+        let mut arena = columns.as_arena_mut();
+        let mut report = [0; 20];
+        let drained = arena.drain(a, &mut report).unwrap();
+        assert!(drained.links().map(|link| link.ptr).eq([a, b, f, c]));
+        arena.remove(d).unwrap();
+        arena.remove(e).unwrap();
+        assert_eq!(*arena.header, [4, 0, 4, 8]);
+        assert_eq!(
+            arena.insert(LinkInsertKind::NextTo(a), 70).unwrap_err().kind(),
+            RefusalKind::LinkRequirement
+        );
+
+        let mut last = arena.insert(LinkInsertKind::SingleLinkCyclic, 1).unwrap();
+        let mut slots = vec![last.slot];
+        for payload in 2..7 {
+            last = arena.insert(LinkInsertKind::NextTo(last), payload).unwrap();
+            assert_eq!(last.generation, 8);
+            slots.push(last.slot);
+        }
+        assert_eq!(slots, [4, 3, 2, 1, 5, 6], "the freelist, then the slots after the stack");
+        assert_eq!(walked(&columns, 4), slots, "each next to the last one in a closed chain");
+        assert_eq!(columns.payload, [4, 3, 2, 1, 5, 6]);
+        assert_eq!(columns.header, [6, 6, 0, 8]);
     }
 
     /// Makes every call of the level.
     pub fn any_calls(columns: &mut OwnedArena, noise: Noise<'_>) -> bool {
         let (p, q) = (any_pointer(noise), any_pointer(noise));
-        let mut slice: Vec<u32> = (0..noise() % 40).map(|_| noise() % 6).collect();
+        let mut slice: Vec<u32> =
+            (0..noise() % 40).map(|k| noise() % if k % 6 == 0 { 21 } else { 6 }).collect();
         let mut answers = vec![0; noise() as usize % 9];
         let mut arena = columns.as_arena_mut();
         let _ = (arena.connect(p, q), arena.exchange_next(p, q), arena.break_prev(p), arena.break_next(q));
         let _ = (arena.set_generation(noise() % 4), arena.inc_generation());
         let _ = (arena.run_words(&slice, &mut answers), arena.remove(p));
+        let kind = noise() as usize % 14;
+        let _ = arena.insert(*ALONE.iter().chain(naming(p, q).as_flattened()).nth(kind).unwrap(), noise());
         let _ = arena.drain(q, &mut slice).map(|drained| drained.links().count());
         arena.canonicalize_freelist().is_ok()
     }
