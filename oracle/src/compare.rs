@@ -159,7 +159,7 @@ pub fn export_outcome(before: &Arena, call: &Call) -> Option<Answer> {
     Some(Ok(Outcome { reply, call, arena }))
 }
 
-/// What the call leaves if it is made through the safe wrapper, if its level is linked.
+/// What the call leaves if it is made through the safe wrapper, if its level is linked and the wrapper can name its kind.
 pub fn wrapper_outcome(before: &Arena, call: &Call) -> Option<Outcome> {
     let (mut arena, mut call) = (before.clone(), call.clone());
     let reply = wrapper::perform(&mut arena, &mut call)?;
