@@ -72,7 +72,7 @@ pub mod kind {
 
     /// Whether a kind names links by their slots alone.
     pub fn by_slot(kind: u32) -> bool {
-        kind > SINGLE_LINK_CYCLIC && kind % 2 == 1
+        names(kind) > 0 && kind % 2 == 1
     }
 
     /// How many links a kind names.
