@@ -1,5 +1,6 @@
-//! The calls, made on the crate's own text. The crate has no numbers for its refusals, so it is asked for its links in the
-//! order in which a call refuses (docs/REFERENCE.md), and its own answer must agree with what it was found to hold.
+//! The calls, made on the crate's own text. The crate has no numbers for most of its refusals, so it is asked for its links
+//! in the order in which a call refuses (docs/REFERENCE.md), and its own answer must agree with what it was found to hold.
+//! An insertion's two errors are its own.
 
 use std::num::{NonZeroU16, NonZeroU32, NonZeroUsize};
 use std::sync::OnceLock;
