@@ -1,8 +1,8 @@
 //! Random calls with random arguments, on any arena.
 
 use crate::random::Random;
-use crate::words::CALLS_IN_ALL;
-use crate::{Arena, Call, Ptr, Reading, Walk, model};
+use crate::words::{CALLS_IN_ALL, INSERT};
+use crate::{Arena, COMMAND_WORDS, Call, Ptr, Reading, Walk, kind, model};
 
 /// The header's word, 0 if the header has none.
 fn word(a: &Arena, place: usize) -> usize {
@@ -46,19 +46,75 @@ pub fn some_walk(r: &mut Random, a: &Arena, kept: &[Walk]) -> Walk {
     Walk { start, position, direction: r.pick(&[0, 0, 1, 2, u32::MAX]), left }
 }
 
+/// A kind of an insertion, seldom an unknown one.
+fn some_kind(r: &mut Random) -> u32 {
+    if r.once_in(20) { r.pick(&[0, 5, 20, 65_536 + kind::CHAIN_END, u32::MAX]) } else { known_kind(r) }
+}
+
+/// A kind of an insertion.
+fn known_kind(r: &mut Random) -> u32 {
+    kind::DISCONNECTED + r.below(kind::ALL.count()) as u32
+}
+
+/// Pointers for a kind of an insertion: the given ones, or such as fit where a few tries find them.
+fn some_place(r: &mut Random, a: &Arena, kind: u32, p: Ptr, q: Ptr) -> (Ptr, Ptr) {
+    let (mut p, mut q) = (p, q);
+    if !r.once_in(3) {
+        match kind {
+            kind::CHAIN_END | kind::CHAIN_END_INX => p = link_without(r, a, &a.next, p),
+            kind::CHAIN_START | kind::CHAIN_START_INX => p = link_without(r, a, &a.prev, p),
+            kind::AT_INTERLINK | kind::AT_INTERLINK_INX => {
+                q = word_at(&a.next, p.slot).filter(|&next| next != 0).map_or(q, |next| to(a, next));
+            }
+            kind::BRIDGE | kind::BRIDGE_INX => {
+                (p, q) = (link_without(r, a, &a.next, p), link_without(r, a, &a.prev, q));
+            }
+            _ => {}
+        }
+    }
+    if kind::by_slot(kind) && r.once_in(2) {
+        (p.generation, q.generation) = (r.word(), r.word());
+    }
+    (p, q)
+}
+
+/// The word of a column at a slot, if there is one.
+fn word_at<T: Copy>(column: &[T], slot: u16) -> Option<T> {
+    column.get(usize::from(slot).checked_sub(1)?).copied()
+}
+
+/// The pointer to a slot with the generation that stands there, 5 where there is none.
+fn to(a: &Arena, slot: u16) -> Ptr {
+    Ptr { slot, generation: word_at(&a.generation, slot).filter(|&there| there != 0).unwrap_or(5) }
+}
+
+/// A pointer to a link that has 0 in a column, or the given pointer if a few tries find none.
+fn link_without(r: &mut Random, a: &Arena, column: &[u16], otherwise: Ptr) -> Ptr {
+    let tries = if stack(a) == 0 { 0 } else { 8 };
+    let mut tried = (0..tries).map(|_| 1 + r.below(stack(a)) as u16);
+    let fits = |&s: &u16| word_at(&a.generation, s) != Some(0) && word_at(column, s) == Some(0);
+    tried.find(fits).map_or(otherwise, |s| to(a, s))
+}
+
 /// The words of up to `most` commands, some of them unknown or with a slot over 65,535.
 pub fn some_commands(r: &mut Random, a: &Arena, most: usize) -> Vec<u32> {
     let mut words = Vec::new();
     for _ in 0..r.below(most) {
-        let (p, q) = (some_ptr(r, a), some_ptr(r, a));
+        let (mut p, mut q) = (some_ptr(r, a), some_ptr(r, a));
         let mut over = || if r.once_in(40) { 65_536 } else { 0 };
         let (over_p, over_q) = (over(), over());
+        let mut code = r.pick(&[1, 1, 2, 3, 4, 4, 5, 5, 0, u32::MAX]);
+        if r.once_in(2) {
+            code = some_kind(r);
+            (p, q) = some_place(r, a, code, p, q);
+        }
         words.extend([
-            r.pick(&[1, 1, 2, 3, 4, 4, 5, 0, 6, u32::MAX]),
+            code,
             u32::from(p.slot) + over_p,
             p.generation,
             u32::from(q.slot) + over_q,
             q.generation,
+            r.word(),
         ]);
     }
     words
@@ -67,7 +123,7 @@ pub fn some_commands(r: &mut Random, a: &Arena, most: usize) -> Vec<u32> {
 /// A run of up to a hundred commands, seldom of a bad length or with too few answers.
 fn some_run(r: &mut Random, a: &Arena) -> Call {
     let mut words = some_commands(r, a, 100);
-    let commands = words.len() / 5;
+    let commands = words.len() / COMMAND_WORDS;
     if r.once_in(10) {
         words.push(r.word());
     }
@@ -75,8 +131,8 @@ fn some_run(r: &mut Random, a: &Arena) -> Call {
     Call::Run(words, vec![r.word(); answers])
 }
 
-/// How often each call is made, by its code; removals are rare, since nothing is ever added.
-const OFTEN: [usize; CALLS_IN_ALL] = [1, 4, 3, 3, 3, 10, 12, 3, 3, 8, 3, 1, 1, 1, 1, 1, 1, 1];
+/// How often each call is made, by its code; insertions so often that arenas are filled again and again.
+const OFTEN: [usize; CALLS_IN_ALL] = [1, 4, 3, 3, 3, 10, 12, 3, 3, 8, 6, 1, 1, 1, 1, 1, 1, 1, 12];
 
 /// A random call.
 pub fn some_call(r: &mut Random, a: &Arena, kept: &[Walk]) -> Call {
@@ -119,6 +175,11 @@ pub fn call_of(code: usize, r: &mut Random, a: &Arena, kept: &[Walk]) -> Call {
             let words = (4 * links(a) + r.below(3)).saturating_sub(1);
             Call::CompressWith(r.below(2) as u32, vec![noise; words])
         }
+        INSERT => {
+            let kind = some_kind(r);
+            let (p, q) = some_place(r, a, kind, p, q);
+            Call::Insert(kind, p, q, noise)
+        }
         _ => {
             let places = if r.once_in(8) { a.capacity() + 1 } else { a.capacity() };
             Call::CompressCanonical(r.below(2) as u32, vec![noise as u16; places])
@@ -145,13 +206,98 @@ pub fn mixed_edits(r: &mut Random, a: &Arena, edits: usize, fitting: bool) -> Ve
     let slots: Vec<usize> = a.link_slots().collect();
     let mut a = a.clone();
     let mut words = Vec::new();
-    while words.len() < 5 * edits {
+    while words.len() < COMMAND_WORDS * edits {
         let (p, q) = (a.ptr(r.pick(&slots)), a.ptr(r.pick(&slots)));
         let code = if fitting { fitting_code(r, &a, p, q) } else { Some(1 + r.below(4) as u32) };
         let Some(code) = code else { continue };
-        let command = [code, p.slot.into(), p.generation, q.slot.into(), q.generation];
+        let command = command(code, p, q, 0);
         model::apply(&mut a, &command);
         words.extend(command);
+    }
+    words
+}
+
+/// The words of a command.
+pub fn command(code: u32, p: Ptr, q: Ptr, payload: u32) -> [u32; COMMAND_WORDS] {
+    [code, p.slot.into(), p.generation, q.slot.into(), q.generation, payload]
+}
+
+/// How the number of links goes in a run.
+#[derive(Clone, Copy, PartialEq, Eq)]
+pub enum Tide {
+    /// Links are added
+    Rising,
+    /// About as many links are added as are taken out
+    Level,
+    /// Links are taken out
+    Falling,
+}
+
+/// The words of a run of edits of every kind, insertions and removals among them. Fitting ones are all done, as long as
+/// there is a way to go on; the others name any links, some that are no more too, so that many are refused.
+pub fn mixed_commands(r: &mut Random, a: &Arena, commands: usize, tide: Tide, fitting: bool) -> Vec<u32> {
+    let mut a = a.clone();
+    let mut known: Vec<Ptr> = a.link_slots().map(|s| a.ptr(s)).collect();
+    let level = known.len();
+    let mut words = Vec::new();
+    let mut tries = 20 * commands;
+    while words.len() < COMMAND_WORDS * commands && tries > 0 {
+        tries -= 1;
+        let place = r.below(known.len().max(1));
+        let none = Ptr { slot: 1, generation: 1 };
+        let p = known.get(place).copied().unwrap_or(none);
+        let q = if known.is_empty() { none } else { r.pick(&known) };
+        let insert = match tide {
+            Tide::Rising => !r.once_in(8),
+            Tide::Level => r.below(2 * level + 1) >= a.links(),
+            Tide::Falling => r.once_in(8),
+        };
+        let command = match (r.once_in(2), insert) {
+            (true, _) => command(r.pick(&[1, 1, 2, 3, 4]), p, q, 0),
+            (_, false) => command(5, p, q, 0),
+            (_, true) => {
+                let kind = known_kind(r);
+                let (p, q) = some_place(r, &a, kind, p, q);
+                command(kind, p, q, r.word())
+            }
+        };
+        let slot = model::slot_to_take(&a);
+        let answer = model::apply(&mut a, &command);
+        if fitting && !matches!(answer, 0 | 100) {
+            continue;
+        }
+        words.extend(command);
+        match (command[0], answer) {
+            (5, 0 | 100) if fitting => _ = known.swap_remove(place),
+            (code, 0) if kind::ALL.contains(&code) && known.len() < a.capacity() => known.push(a.ptr(slot)),
+            (code, 0) if kind::ALL.contains(&code) => known[place] = a.ptr(slot),
+            _ => {}
+        }
+    }
+    words
+}
+
+/// The words of a run that fills an empty arena: one chain, each link behind the last, or links of every kind, each of them
+/// anywhere among those that are there.
+pub fn growth(r: &mut Random, a: &Arena, of_every_kind: bool) -> Vec<u32> {
+    let mut a = a.clone();
+    let mut words = Vec::new();
+    while a.links() < a.capacity() {
+        let mut link =
+            || if a.links() == 0 { Ptr { slot: 1, generation: 1 } } else { a.ptr(1 + r.below(a.links())) };
+        let (p, q) = (link(), link());
+        let command = if of_every_kind {
+            let kind = known_kind(r);
+            let (p, q) = some_place(r, &a, kind, p, q);
+            command(kind, p, q, r.word())
+        } else if a.links() == 0 {
+            command(kind::DISCONNECTED, p, q, r.word())
+        } else {
+            command(kind::CHAIN_END, a.ptr(a.links()), q, r.word())
+        };
+        if model::apply(&mut a, &command) == 0 {
+            words.extend(command);
+        }
     }
     words
 }

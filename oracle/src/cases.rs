@@ -1,7 +1,8 @@
 //! Cases taken whole: every small arena, every tuple of words, every call with every pointer.
 
+use crate::calls::command;
 use crate::random::Random;
-use crate::{Arena, Call, Ptr, Reading, Walk, model};
+use crate::{Arena, COMMAND_WORDS, Call, Ptr, Reading, Walk, kind, model};
 
 /// How many arenas of stack length 0, 1, and so on up to 6 pass the check.
 pub const COUNTS: [usize; 7] = [1, 3, 13, 73, 501, 4_051, 37_633];
@@ -91,6 +92,19 @@ pub fn dressed_arenas(length: usize) -> Vec<Arena> {
         arenas.push(dressed(&a, &mut r, 2, &[1, 2, 5, 6, u32::MAX], 6));
         arenas.push(dressed(&a, &mut r, 1, &[u32::MAX - 1], u32::MAX - 1));
         arenas.push(dressed(&a, &mut r, 1, &[2, u32::MAX], u32::MAX));
+    }
+    arenas
+}
+
+/// Every arena of a stack length that passes the check, with no room above the stack, with one slot and with two, and with
+/// other generations each time.
+pub fn roomy_arenas(length: usize) -> Vec<Arena> {
+    let mut r = Random::new(length as u64);
+    let mut arenas = Vec::new();
+    for a in small_arenas(length) {
+        arenas.push(dressed(&a, &mut r, 0, &[2, 5, 6], 5));
+        arenas.push(dressed(&a, &mut r, 1, &[1, 2, 5, 6, u32::MAX], 6));
+        arenas.push(dressed(&a, &mut r, 2, &[2, u32::MAX], u32::MAX));
     }
     arenas
 }
@@ -197,10 +211,15 @@ pub fn each_walked_state(a: &Arena, mut found: impl FnMut(Walk)) {
     }
 }
 
-/// Every call of Level Two with every pointer of the list; reports empty, one word short of the chain, exact, and longer; a
-/// run of each single command, and runs of every length up to eleven words with up to three answers.
+/// What stands in lent words before the call.
+const NOISE: u32 = 0xdead_beef;
+
+/// The codes of a run's commands that are no insertions, and unknown ones.
+const EDITS: [u32; 9] = [1, 2, 3, 4, 5, 0, 20, 65_537, u32::MAX];
+
+/// Every call of Level Two but insertions with every pointer of the list; reports empty, one word short of the chain, exact,
+/// and longer; a run of each single command, and runs of every length up to thirteen words with up to three answers.
 pub fn each_edit(a: &Arena, mut found: impl FnMut(Call)) {
-    const NOISE: u32 = 0xdead_beef;
     let pointers = pointers(a);
     for &p in &pointers {
         found(Call::BreakPrev(p));
@@ -221,51 +240,118 @@ pub fn each_edit(a: &Arena, mut found: impl FnMut(Call)) {
     }
     found(Call::IncGeneration);
     found(Call::CanonicalizeFreelist);
-    for command in commands(&pointers) {
+    for command in commands(&EDITS, &pointers) {
         found(Call::Run(command.to_vec(), vec![NOISE; 2]));
     }
-    for words in 0..=11 {
+    for words in 0..=2 * COMMAND_WORDS + 1 {
         for answers in 0..=3 {
             found(Call::Run(vec![1; words], vec![NOISE; answers]));
         }
     }
 }
 
-/// Every command with every pair of the pointers, each break and removal also with a second pointer that is not looked at,
-/// and unknown codes.
-pub fn commands(pointers: &[Ptr]) -> Vec<[u32; 5]> {
+/// The commands of the codes with every pair of the pointers; where the second is not looked at, with every first.
+fn commands(codes: &[u32], pointers: &[Ptr]) -> Vec<[u32; COMMAND_WORDS]> {
     let mut commands = Vec::new();
-    let mut push = |code, p: Ptr, q: Ptr| {
-        commands.push([code, p.slot.into(), p.generation, q.slot.into(), q.generation]);
-    };
     for (k, &p) in pointers.iter().enumerate() {
-        for &q in pointers {
-            push(1, p, q);
-            push(4, p, q);
-        }
-        for code in [2, 3, 5, 0, 6, 65_537, u32::MAX] {
-            push(code, p, pointers[(k + 1) % pointers.len()]);
+        for &code in codes {
+            let both = matches!(code, 1 | 4) || kind::names(code) == 2;
+            let seconds = if both { pointers } else { &[pointers[(k + 1) % pointers.len()]] };
+            commands.extend(seconds.iter().map(|&q| command(code, p, q, 900 + code % 100)));
         }
     }
     commands
 }
 
-/// Every run of two commands, with pointers to every link and a stale one, and some with 65,536 added to a slot.
-pub fn each_pair_of_commands(a: &Arena, mut found: impl FnMut(Call)) {
+/// Every link, and a stale pointer.
+fn links_and_stale(a: &Arena) -> Vec<Ptr> {
     let mut pointers: Vec<Ptr> = a.link_slots().map(|s| a.ptr(s)).collect();
     let stale = pointers
         .first()
         .map_or(Ptr { slot: 1, generation: 5 }, |p| Ptr { generation: p.generation.wrapping_add(1), ..*p });
     pointers.push(stale);
-    let mut commands = commands(&pointers);
+    pointers
+}
+
+/// Every run of two commands that are no insertions, with pointers to every link and a stale one, and some with 65,536
+/// added to a slot.
+pub fn each_pair_of_edits(a: &Arena, found: impl FnMut(Call)) {
+    let mut commands = commands(&EDITS, &links_and_stale(a));
     for k in 0..commands.len().min(3) {
         let mut over = commands[k];
         over[1] += 65_536;
         commands.push(over);
     }
-    for first in &commands {
-        for second in &commands {
+    each_pair(&commands, found);
+}
+
+/// Every run of two commands of the codes 0 to 20, with pointers to every link, to a link that the first command may insert
+/// and a stale one; and some insertions with 65,536 added to a slot.
+pub fn each_pair_of_commands(a: &Arena, found: impl FnMut(Call)) {
+    let mut pointers = links_and_stale(a);
+    pointers.push(Ptr { slot: model::slot_to_take(a) as u16, generation: a.current() });
+    let codes: Vec<u32> = (0..=20).collect();
+    let mut commands = commands(&codes, &pointers);
+    for code in kind::ALL {
+        let [_, slot, generation, ..] = commands[0];
+        commands.push([code, slot + 65_536, generation, slot, generation, 7]);
+        commands.push([code, slot, generation, slot + 65_536, generation, 8]);
+    }
+    each_pair(&commands, found);
+}
+
+/// Every run of two of the commands.
+fn each_pair(commands: &[[u32; COMMAND_WORDS]], mut found: impl FnMut(Call)) {
+    for first in commands {
+        for second in commands {
             found(Call::Run([*first, *second].concat(), vec![9; 2]));
+        }
+    }
+}
+
+/// Pointers to slots 0 to the stack length and 1, each with the word that stands in the generation column, also of a free
+/// slot and above the stack, and with another one.
+fn slots_and_words(a: &Arena) -> Vec<Ptr> {
+    let mut pointers = Vec::new();
+    for s in 0..=a.stack() + 1 {
+        let there = s.checked_sub(1).and_then(|place| a.generation.get(place)).copied().unwrap_or(5);
+        let another = if there == 0 { a.current() } else { there.wrapping_add(1).max(1) };
+        for generation in [there, another] {
+            pointers.push(Ptr { slot: s as u16, generation });
+        }
+    }
+    pointers
+}
+
+/// Every kind of insertion, and unknown ones, with every pair of pointers, and a run of each such command, those whose
+/// second pointer is not looked at with every first.
+pub fn each_insertion(a: &Arena, mut found: impl FnMut(Call)) {
+    let pointers = slots_and_words(a);
+    let unknown = [0, 5, 20, kind::CHAIN_END + 65_536, u32::MAX];
+    let kinds: Vec<u32> = kind::ALL.chain(unknown).collect();
+    for &kind in &kinds {
+        for &p in &pointers {
+            for &q in &pointers {
+                found(Call::Insert(kind, p, q, 900 + kind % 100));
+            }
+        }
+    }
+    for command in commands(&kinds[..kind::ALL.count()], &pointers) {
+        found(Call::Run(command.to_vec(), vec![NOISE; 2]));
+    }
+}
+
+/// An insertion for each place that a link can be put at.
+pub fn each_place(a: &Arena, mut found: impl FnMut(Call)) {
+    let links: Vec<Ptr> = a.link_slots().map(|s| a.ptr(s)).collect();
+    let none = Ptr { slot: 0, generation: 0 };
+    for kind in kind::ALL.filter(|&kind| !kind::by_slot(kind)) {
+        let some =
+            |names: usize| if kind::names(kind) < names { std::slice::from_ref(&none) } else { &links[..] };
+        for &p in some(1) {
+            for &q in some(2) {
+                found(Call::Insert(kind, p, q, 1));
+            }
         }
     }
 }
@@ -275,7 +361,7 @@ pub fn each_compression(a: &Arena, mut found: impl FnMut(Call)) {
     let exact = 4 * a.links();
     for reset in [0, 1, 7] {
         for words in [exact.saturating_sub(1), exact, exact + 3] {
-            found(Call::CompressWith(reset, vec![0xdead_beef; words]));
+            found(Call::CompressWith(reset, vec![NOISE; words]));
         }
         for places in [a.capacity().saturating_sub(1), a.capacity(), a.capacity() + 1] {
             found(Call::CompressCanonical(reset, vec![0xbeef; places]));

@@ -58,7 +58,7 @@ pub struct Counts {
     pub with_crate: u64,
     /// Cases that were asked of an exported call
     pub with_exports: u64,
-    /// Cases by the model's number, 0 to 16 and 100
+    /// Cases by the model's number, 0 to 18 and 100
     pub numbers: [u64; 101],
 }
 
@@ -159,7 +159,7 @@ pub fn export_outcome(before: &Arena, call: &Call) -> Option<Answer> {
     Some(Ok(Outcome { reply, call, arena }))
 }
 
-/// What the call leaves if it is made through the safe wrapper, if its level is linked.
+/// What the call leaves if it is made through the safe wrapper, if its level is linked and the wrapper can name its kind.
 pub fn wrapper_outcome(before: &Arena, call: &Call) -> Option<Outcome> {
     let (mut arena, mut call) = (before.clone(), call.clone());
     let reply = wrapper::perform(&mut arena, &mut call)?;
@@ -216,7 +216,7 @@ fn asked_product(
     if !agrees(before, expected, found) {
         return Some(("export", answer));
     }
-    let refused = (1..=16).contains(&found.reply.number);
+    let refused = !matches!(found.reply.number, 0 | 100);
     if refused && (found.arena != *before || found.call != *call) {
         return said("it wrote a word although it refused");
     }
@@ -253,13 +253,18 @@ impl Live {
         Self(crate::crate_side::CrateArena::hold(a).expect("a whole arena"))
     }
 
-    /// Makes the call if the crate has it, and holds what it leaves to the model.
+    /// Makes the call if the crate has it, and holds what it leaves to the model and to the crate's own check.
     pub fn follow(&mut self, before: &Arena, call: &Call, expected: &Outcome) -> Option<Box<Mismatch>> {
         let mut lent = call.clone();
         let reply = self.0.perform(&mut lent)?;
         let found = Outcome { reply, call: lent, arena: self.0.columns(before) };
+        let parted = match self.0.check() {
+            _ if found != *expected => Ok(found),
+            0 => return None,
+            number => Err(format!("its own check says {number} afterwards")),
+        };
         let side = "crate arena of the whole sequence";
-        (found != *expected).then(|| Mismatch::new(side, before, call, Some(expected.clone()), Ok(found)))
+        Some(Mismatch::new(side, before, call, Some(expected.clone()), parted))
     }
 }
 

@@ -1,17 +1,21 @@
-//! The calls, made on the crate's own text. The crate has no numbers for its refusals, so it is asked for its links in the
-//! order in which a call refuses (docs/REFERENCE.md), and its own answer must agree with what it was found to hold.
+//! The calls, made on the crate's own text. The crate has no numbers for most of its refusals, so it is asked for its links
+//! in the order in which a call refuses (docs/REFERENCE.md), and its own answer must agree with what it was found to hold.
+//! An insertion's two errors are its own.
 
 use std::num::{NonZeroU16, NonZeroU32, NonZeroUsize};
 use std::sync::OnceLock;
 
 use crate_text::arena::ArenaSlot::{Allocated, Free};
 use crate_text::chain_iterators::ChainPtrAdvancer;
+use crate_text::errors::ChainInsertionError;
 use crate_text::traits::{Advancer, ArenaTrait, ChainArenaTrait, Ptr as _};
 use crate_text::utils::traits::NonZeroInxGenericStack;
-use crate_text::{ChainArena, InvalidationOption, InvalidationResult, LinkNoGen, StackBacking, reach};
+use crate_text::{
+    ChainArena, InvalidationOption, InvalidationResult, LinkInsertKind, LinkNoGen, StackBacking, reach,
+};
 
 use crate::header::{GENERATION, LINKS, ROOT, STACK};
-use crate::{Arena, Call, LIMIT, Ptr, Reading, Reply, Walk};
+use crate::{Arena, COMMAND_WORDS, Call, LIMIT, Ptr, Reading, Reply, Walk, kind};
 
 crate_text::ptr_struct!(P0[NonZeroU16](NonZeroU32));
 
@@ -20,6 +24,8 @@ type Chain = ChainArena<P0, u32, StackBacking<LIMIT>>;
 /// A chain arena of the crate.
 pub struct CrateArena {
     chain: Chain,
+    /// The slots that the last call's insertions took
+    taken: Vec<u16>,
 }
 
 /// What the crate's check says when it refuses, and the number for it. What 1 and 6 are about its types cannot hold.
@@ -48,6 +54,28 @@ fn indexes(stack: usize) -> impl Iterator<Item = NonZeroUsize> {
 /// The crate's pointer, if its types can hold this one; if they cannot, the pointer is stale.
 fn held(p: Ptr) -> Option<P0> {
     Some(P0::_from_raw(NonZeroU16::new(p.slot)?, NonZeroU32::new(p.generation)?))
+}
+
+/// The crate's name for a kind of insertion with its pointers, if its types can hold them; if they cannot, one is stale.
+fn insert_kind(kind: u32, p: Ptr, q: Ptr) -> Option<LinkInsertKind<P0>> {
+    let inx = |p: Ptr| NonZeroU16::new(p.slot);
+    Some(match kind {
+        kind::DISCONNECTED => LinkInsertKind::Disconnected,
+        kind::SINGLE_LINK_CYCLIC => LinkInsertKind::SingleLinkCyclic,
+        kind::CHAIN_END => LinkInsertKind::ChainEnd(held(p)?),
+        kind::CHAIN_END_INX => LinkInsertKind::ChainEndInx(inx(p)?),
+        kind::CHAIN_START => LinkInsertKind::ChainStart(held(p)?),
+        kind::CHAIN_START_INX => LinkInsertKind::ChainStartInx(inx(p)?),
+        kind::NEXT_TO => LinkInsertKind::NextTo(held(p)?),
+        kind::NEXT_TO_INX => LinkInsertKind::NextToInx(inx(p)?),
+        kind::PREV_TO => LinkInsertKind::PrevTo(held(p)?),
+        kind::PREV_TO_INX => LinkInsertKind::PrevToInx(inx(p)?),
+        kind::AT_INTERLINK => LinkInsertKind::AtInterlink { next_to: held(p)?, prev_to: held(q)? },
+        kind::AT_INTERLINK_INX => LinkInsertKind::AtInterlinkInx { next_to: inx(p)?, prev_to: inx(q)? },
+        kind::BRIDGE => LinkInsertKind::Bridge { end: held(p)?, start: held(q)? },
+        kind::BRIDGE_INX => LinkInsertKind::BridgeInx { end: inx(p)?, start: inx(q)? },
+        _ => unreachable!("the kinds are those of the list"),
+    })
 }
 
 /// The number of a call that the crate says is done.
@@ -84,7 +112,7 @@ impl CrateArena {
             base.set_len(a.header[LINKS] as usize);
             base.set_freelist_root(NonZeroU16::new(root));
         }
-        Some(Self { chain })
+        Some(Self { chain, taken: vec![] })
     }
 
     /// The crate's own check, as it answers.
@@ -102,15 +130,22 @@ impl CrateArena {
     }
 
     /// The columns that stand for this arena, where `before` stood for it before the call: a slot that was freed has 0
-    /// in its other words, a popped slot in all, and what the crate does not keep is as it was.
+    /// in its other words, a popped slot in all, and what the crate does not keep is as it was. A run may also free or pop
+    /// a slot that it took itself.
     pub fn columns(&self, before: &Arena) -> Arena {
         let mut a = before.clone();
         let base = reach::base(&self.chain);
         let stack = base.backing().len();
+        for place in self.taken.iter().map(|&slot| usize::from(slot) - 1) {
+            a.prev[place] = 0;
+            a.next[place] = 0;
+            a.generation[place] = 0;
+            a.payload[place] = 0;
+        }
         for (place, inx) in indexes(stack).enumerate() {
             match base.backing().get(inx) {
                 Some(Free(pointer)) => {
-                    if before.generation[place] != 0 {
+                    if a.generation[place] != 0 {
                         a.prev[place] = 0;
                         a.payload[place] = 0;
                     }
@@ -142,6 +177,7 @@ impl CrateArena {
     /// Makes one call on an arena that passes the check, or none where the crate has no such call: 14, 15 and 16, and
     /// states of a walk that its types cannot hold.
     pub fn perform(&mut self, call: &mut Call) -> Option<Reply> {
+        self.taken.clear();
         Some(match call {
             Call::Check => {
                 assert_eq!(self.check(), 0);
@@ -172,6 +208,8 @@ impl CrateArena {
             Call::Run(commands, answers) => self.run(commands, answers)?,
             Call::CompressWith(reset, report) => self.compress_with(*reset != 0, report)?,
             Call::CompressCanonical(reset, from) => self.compress_canonical(*reset != 0, from)?,
+            Call::Insert(kind, ..) if !kind::ALL.contains(kind) => return None,
+            Call::Insert(kind, p, q, payload) => self.insert(*kind, *p, *q, *payload),
         })
     }
 
@@ -279,6 +317,23 @@ impl CrateArena {
         agreed(number, both(p, q).and_then(|(p, q)| self.chain.exchange_next(p, q)))
     }
 
+    /// Inserts a link as the crate does where it may not grow, and answers its pointer. A pointer that the crate's types
+    /// cannot hold is stale.
+    fn insert(&mut self, kind: u32, p: Ptr, q: Ptr, payload: u32) -> Reply {
+        let Some(kind) = insert_kind(kind, p, q) else {
+            return Reply::number(17);
+        };
+        match self.chain.insert_within_capacity(kind, payload) {
+            Ok(p) => {
+                self.taken.push(p.inx().get());
+                Reply::new(0, &[p.inx().get().into(), p.generation().get()])
+            }
+            Err(ChainInsertionError::FailedLinkRequirement) => Reply::number(17),
+            Err(ChainInsertionError::NotWithinCapacity) => Reply::number(18),
+            Err(error) => panic!("the crate's insertion says {error:?}"),
+        }
+    }
+
     /// Removes a link and answers it as it was.
     fn remove(&mut self, p: Ptr) -> Reply {
         let Some(p) = held(p) else {
@@ -328,10 +383,10 @@ impl CrateArena {
 
     /// Makes the calls that the commands stand for, or none if 16 or 14 is due for the whole run.
     fn run(&mut self, commands: &[u32], answers: &mut [u32]) -> Option<Reply> {
-        if !commands.len().is_multiple_of(5) || answers.len() < commands.len() / 5 {
+        if !commands.len().is_multiple_of(COMMAND_WORDS) || answers.len() < commands.len() / COMMAND_WORDS {
             return None;
         }
-        for (command, answer) in commands.chunks_exact(5).zip(answers) {
+        for (command, answer) in commands.chunks_exact(COMMAND_WORDS).zip(answers) {
             let ptr = |slot: u32, generation| Ptr { slot: slot.try_into().unwrap_or(0), generation };
             let p = ptr(command[1], command[2]);
             let q = ptr(command[3], command[4]);
@@ -341,6 +396,7 @@ impl CrateArena {
                 3 => self.break_next(p),
                 4 => self.exchange_next(p, q),
                 5 => self.remove(p).number,
+                code if kind::ALL.contains(&code) => self.insert(code, p, q, command[5]).number,
                 _ => 16,
             };
         }
@@ -411,14 +467,32 @@ impl CrateArena {
     /// Makes edits one after the other, and writes 0 for each that is done, else 1.
     pub fn edit(&mut self, edits: &[Edit], answers: &mut [u32]) {
         for (edit, answer) in edits.iter().zip(answers) {
-            let done = match edit.code {
-                1 => self.chain.connect(edit.p, edit.q),
-                2 => self.chain.break_prev(edit.p),
-                3 => self.chain.break_next(edit.p),
-                _ => self.chain.exchange_next(edit.p, edit.q),
+            let done = match *edit {
+                Edit::Connect(p, q) => self.chain.connect(p, q).is_some(),
+                Edit::BreakPrev(p) => self.chain.break_prev(p).is_some(),
+                Edit::BreakNext(p) => self.chain.break_next(p).is_some(),
+                Edit::ExchangeNext(p, q) => self.chain.exchange_next(p, q).is_some(),
+                Edit::Remove(p) => {
+                    !matches!(self.chain.remove_link_no_gen(p), InvalidationResult::InvalidPtr)
+                }
+                Edit::Insert(kind, payload) => self.chain.insert_within_capacity(kind, payload).is_ok(),
             };
-            *answer = u32::from(done.is_none());
+            *answer = u32::from(!done);
         }
+    }
+
+    /// Makes edits one after the other, each after the crate's own check.
+    pub fn edit_checked(&mut self, edits: &[Edit], answers: &mut [u32]) {
+        for (edit, answer) in edits.iter().zip(answers.as_chunks_mut::<1>().0) {
+            self.check_invariants().expect("an arena that passes");
+            self.edit(std::slice::from_ref(edit), answer);
+        }
+    }
+
+    /// Takes every link out, and leaves the memory of the slots to be used again.
+    pub fn clear(&mut self, generation: u32) {
+        self.chain.clear().allow();
+        self.chain.set_generation(NonZeroU32::new(generation).expect("not 0"));
     }
 
     /// Compresses canonically, without a where-from column.
@@ -427,22 +501,33 @@ impl CrateArena {
     }
 }
 
-/// A connect, break or exchange as the crate takes it.
+/// An edit as the crate takes it.
 #[derive(Clone, Copy)]
-pub struct Edit {
-    code: u32,
-    p: P0,
-    q: P0,
+pub enum Edit {
+    Connect(P0, P0),
+    BreakPrev(P0),
+    BreakNext(P0),
+    ExchangeNext(P0, P0),
+    Remove(P0),
+    Insert(LinkInsertKind<P0>, u32),
 }
 
 impl Edit {
-    /// The edits that the words of a run stand for, or none if the crate's types cannot hold a pointer.
+    /// The edits that the words of a run stand for, or none if a code is unknown or the crate's types cannot hold a pointer.
     pub fn of(commands: &[u32]) -> Option<Vec<Self>> {
-        let edit = |words: &[u32; 5]| {
-            let [code, slot, generation, other_slot, other_generation] = *words;
+        let edit = |words: &[u32; COMMAND_WORDS]| {
+            let [code, slot, generation, other_slot, other_generation, payload] = *words;
             let p = Ptr { slot: slot as u16, generation };
-            let (p, q) = both(p, Ptr { slot: other_slot as u16, generation: other_generation })?;
-            Some(Self { code, p, q })
+            let q = Ptr { slot: other_slot as u16, generation: other_generation };
+            Some(match code {
+                1 => Self::Connect(held(p)?, held(q)?),
+                2 => Self::BreakPrev(held(p)?),
+                3 => Self::BreakNext(held(p)?),
+                4 => Self::ExchangeNext(held(p)?, held(q)?),
+                5 => Self::Remove(held(p)?),
+                code if kind::ALL.contains(&code) => Self::Insert(insert_kind(code, p, q)?, payload),
+                _ => return None,
+            })
         };
         commands.as_chunks().0.iter().map(edit).collect()
     }

@@ -88,6 +88,10 @@ fn level_two(a: &mut Arena, call: &mut Call, guard: usize) -> Option<Reply> {
         Call::ExchangeNext(p, q) => {
             call!(chain_arena_exchange_next(a, guard, as_mut_ptr, p.slot, p.generation, q.slot, q.generation))
         }
+        Call::Insert(kind, p, q, payload) => {
+            call!(chain_arena_insert(a, guard, as_mut_ptr, *kind, p.slot, p.generation, q.slot, q.generation, *payload)
+                slot generation)
+        }
         Call::Remove(p) => call!(chain_arena_remove(a, guard, as_mut_ptr, p.slot, p.generation) prev next payload),
         Call::Drain(p, report) => {
             call!(chain_arena_drain(a, guard, as_mut_ptr, p.slot, p.generation, report.as_mut_ptr().add(guard),

@@ -37,6 +37,54 @@ pub mod header {
     pub const GENERATION: usize = 3;
 }
 
+/// How many words a command of a run has: a code, the slots and generations of two pointers, a payload.
+pub const COMMAND_WORDS: usize = 6;
+
+/// The kinds of an insertion by their codes. Of two kinds that do the same the second names its links by their slots alone.
+pub mod kind {
+    use std::ops::RangeInclusive;
+
+    /// A lone link
+    pub const DISCONNECTED: u32 = 6;
+    /// A link closed alone
+    pub const SINGLE_LINK_CYCLIC: u32 = 7;
+    /// Behind the end of a chain
+    pub const CHAIN_END: u32 = 8;
+    pub const CHAIN_END_INX: u32 = 9;
+    /// Before the start of a chain
+    pub const CHAIN_START: u32 = 10;
+    pub const CHAIN_START_INX: u32 = 11;
+    /// Behind a link, wherever it is
+    pub const NEXT_TO: u32 = 12;
+    pub const NEXT_TO_INX: u32 = 13;
+    /// Before a link, wherever it is
+    pub const PREV_TO: u32 = 14;
+    pub const PREV_TO_INX: u32 = 15;
+    /// Between two neighbours
+    pub const AT_INTERLINK: u32 = 16;
+    pub const AT_INTERLINK_INX: u32 = 17;
+    /// Between an end and a start
+    pub const BRIDGE: u32 = 18;
+    pub const BRIDGE_INX: u32 = 19;
+
+    /// All of them
+    pub const ALL: RangeInclusive<u32> = DISCONNECTED..=BRIDGE_INX;
+
+    /// Whether a kind names links by their slots alone.
+    pub fn by_slot(kind: u32) -> bool {
+        names(kind) > 0 && kind % 2 == 1
+    }
+
+    /// How many links a kind names.
+    pub fn names(kind: u32) -> usize {
+        match kind {
+            CHAIN_END..=PREV_TO_INX => 1,
+            AT_INTERLINK..=BRIDGE_INX => 2,
+            _ => 0,
+        }
+    }
+}
+
 pub use chain_arena::{OwnedArena as Arena, Ptr, Walk};
 
 /// What the words of an arena say, where its columns and its header are as long as they must be.
@@ -112,6 +160,8 @@ pub enum Call {
     CompressWith(u32, Vec<u32>),
     /// The reset word and the where-from column
     CompressCanonical(u32, Vec<u16>),
+    /// The kind, its two pointers and the payload
+    Insert(u32, Ptr, Ptr, u32),
 }
 
 impl Call {

@@ -2,7 +2,7 @@
 //! crate does not tell, as 12 from 13.
 
 use crate::header::{GENERATION, LINKS, ROOT, STACK};
-use crate::{Arena, Call, LIMIT, Ptr, Reading, Reply, Walk};
+use crate::{Arena, COMMAND_WORDS, Call, LIMIT, Ptr, Reading, Reply, Walk, kind};
 
 /// Makes one call, which begins with the check (REFERENCE, Replies).
 pub fn perform(a: &mut Arena, call: &mut Call) -> Reply {
@@ -29,6 +29,7 @@ pub fn perform(a: &mut Arena, call: &mut Call) -> Reply {
         Call::Run(commands, answers) => Reply::number(run(a, commands, answers)),
         Call::CompressWith(reset, report) => Reply::number(compress_with(a, *reset != 0, report)),
         Call::CompressCanonical(reset, from) => Reply::number(compress_canonical(a, *reset != 0, from)),
+        Call::Insert(kind, p, q, payload) => insert(a, *kind, *p, *q, *payload),
     }
 }
 
@@ -289,6 +290,87 @@ fn exchange_next(a: &mut Arena, p: Ptr, q: Ptr) -> u32 {
     0
 }
 
+// REFERENCE, Insert
+
+/// Adds a lone link, then joins it to what the kind names, and answers its pointer.
+fn insert(a: &mut Arena, kind: u32, p: Ptr, q: Ptr, payload: u32) -> Reply {
+    if !kind::ALL.contains(&kind) {
+        return Reply::number(16);
+    }
+    if !may_insert(a, kind, p, q) {
+        return Reply::number(17);
+    }
+    let Some(new) = add_lone(a, payload) else {
+        return Reply::number(18);
+    };
+    let (p, q) = (p.slot, q.slot);
+    match kind {
+        kind::DISCONNECTED => {}
+        kind::SINGLE_LINK_CYCLIC => join(a, new, new),
+        kind::CHAIN_END | kind::CHAIN_END_INX => join(a, p, new),
+        kind::CHAIN_START | kind::CHAIN_START_INX => join(a, new, p),
+        kind::NEXT_TO | kind::NEXT_TO_INX => {
+            let after = at(&a.next, p);
+            join(a, p, new);
+            join(a, new, after);
+        }
+        kind::PREV_TO | kind::PREV_TO_INX => {
+            let before = at(&a.prev, p);
+            join(a, before, new);
+            join(a, new, p);
+        }
+        _ => {
+            join(a, p, new);
+            join(a, new, q);
+        }
+    }
+    Reply::new(0, &[new.into(), a.current()])
+}
+
+/// Whether what a kind asks of the links that it names is so. A kind by slot looks at no generation.
+pub fn may_insert(a: &Arena, kind: u32, p: Ptr, q: Ptr) -> bool {
+    let good = |p: Ptr| if kind::by_slot(kind) { a.is_link(p.slot.into()) } else { !stale(a, p) };
+    let is_end = |p: Ptr| at(&a.next, p.slot) == 0;
+    let is_start = |p: Ptr| at(&a.prev, p.slot) == 0;
+    match kind {
+        kind::DISCONNECTED | kind::SINGLE_LINK_CYCLIC => true,
+        kind::CHAIN_END | kind::CHAIN_END_INX => good(p) && is_end(p),
+        kind::CHAIN_START | kind::CHAIN_START_INX => good(p) && is_start(p),
+        kind::NEXT_TO..=kind::PREV_TO_INX => good(p),
+        kind::AT_INTERLINK | kind::AT_INTERLINK_INX => good(p) && good(q) && at(&a.next, p.slot) == q.slot,
+        _ => good(p) && good(q) && is_end(p) && is_start(q),
+    }
+}
+
+/// The slot that an insertion takes, if there is room: the root, or where nothing is free the slot behind the stack.
+pub fn slot_to_take(a: &Arena) -> usize {
+    if a.root() == 0 { a.stack() + 1 } else { a.root() as usize }
+}
+
+/// Adds a link of the current generation without neighbours and answers its slot; none if there is no room.
+fn add_lone(a: &mut Arena, payload: u32) -> Option<u16> {
+    let s = slot_to_take(a);
+    if s > a.capacity() {
+        return None;
+    }
+    if a.root() == 0 {
+        a.header[STACK] += 1;
+    } else {
+        let following = a.next[s - 1] as usize;
+        a.header[ROOT] = if following == s { 0 } else { following as u32 };
+    }
+    (a.prev[s - 1], a.next[s - 1]) = (0, 0);
+    (a.generation[s - 1], a.payload[s - 1]) = (a.current(), payload);
+    a.header[LINKS] += 1;
+    Some(s as u16)
+}
+
+/// Makes two links neighbours; where one of them is slot 0, the other has no neighbour on that side.
+fn join(a: &mut Arena, before: u16, after: u16) {
+    put(&mut a.next, before, after);
+    put(&mut a.prev, after, before);
+}
+
 // REFERENCE, Remove, Drain, Generation and Freelist
 
 /// The generation after this one, and whether it overflowed.
@@ -403,13 +485,13 @@ fn canonicalize_freelist(a: &mut Arena) -> u32 {
 
 /// Applies the commands in order and writes an answer for each.
 fn run(a: &mut Arena, commands: &[u32], answers: &mut [u32]) -> u32 {
-    if !commands.len().is_multiple_of(5) {
+    if !commands.len().is_multiple_of(COMMAND_WORDS) {
         return 16;
     }
-    if answers.len() < commands.len() / 5 {
+    if answers.len() < commands.len() / COMMAND_WORDS {
         return 14;
     }
-    for (command, answer) in commands.chunks_exact(5).zip(answers) {
+    for (command, answer) in commands.chunks_exact(COMMAND_WORDS).zip(answers) {
         *answer = apply(a, command);
     }
     0
@@ -430,7 +512,7 @@ pub fn apply(a: &mut Arena, command: &[u32]) -> u32 {
         3 => break_next(a, p),
         4 => exchange_next(a, p, q),
         5 => remove(a, p).number,
-        _ => 16,
+        code => insert(a, code, p, q, command[5]).number,
     }
 }
 

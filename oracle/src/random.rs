@@ -111,6 +111,12 @@ pub fn whole(r: &mut Random, capacity: usize, stack: usize, style: Style) -> Are
     a
 }
 
+/// An arena without a slot on its stack, with noise in every column.
+pub fn empty(r: &mut Random, capacity: usize) -> Arena {
+    let style = Style { free: 0, longest: 1, even: true, scattered: false, closed: 0 };
+    whole(r, capacity, 0, style)
+}
+
 /// An arena of any style with up to `most` slots, and some room past them.
 pub fn any_whole(r: &mut Random, most: usize) -> Arena {
     let stack = r.below(most + 1);

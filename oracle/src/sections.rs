@@ -3,12 +3,12 @@
 
 use std::collections::HashSet;
 
-use crate::calls::{each_call, keep, mixed_edits, some_call, some_commands, some_walk};
+use crate::calls::{Tide, each_call, keep, mixed_commands, mixed_edits, some_call, some_commands, some_walk};
 use crate::cases;
 use crate::compare::{Counts, Live, Mismatch, Outcome, Product, compare, model_outcome};
 use crate::random::{self, Random, Style};
 use crate::runner::{Jobs, Judge};
-use crate::{Arena, Call, LIMIT, Ptr, Reading, demand3};
+use crate::{Arena, COMMAND_WORDS, Call, LIMIT, Ptr, Reading, Walk, demand3, kind};
 
 /// The short form is for every run of the gate, the long one for once.
 #[derive(Clone, Copy, PartialEq, Eq)]
@@ -36,7 +36,7 @@ pub struct Section {
 }
 
 /// All sections, of all three levels.
-pub const SECTIONS: [Section; 15] = [
+pub const SECTIONS: [Section; 18] = [
     Section {
         name: "tuples",
         what: "the check on every tuple of words of stack length 0 to 3, at two capacities",
@@ -69,15 +69,27 @@ pub const SECTIONS: [Section; 15] = [
     },
     Section {
         name: "edits",
-        what: "every edit with every pair of pointers on every small arena",
+        what: "every edit but insertion with every pair of pointers on every small arena",
         numbers: &[0, 12, 13, 14, 15, 16, 100],
         jobs: |form| every(form.of(4, 5), |a, found| cases::each_edit(a, found)),
     },
     Section {
+        name: "insertions",
+        what: "every kind of insertion with every pair of pointers on every small arena, with room for 0, 1 and 2 links",
+        numbers: &[0, 16, 17, 18],
+        jobs: |form| insertions(form.of(4, 5)),
+    },
+    Section {
         name: "pairs",
-        what: "runs of every two commands on every small arena",
+        what: "runs of every two commands that are no insertions on every small arena",
         numbers: &[0],
-        jobs: |form| every(form.of(3, 4), |a, found| cases::each_pair_of_commands(a, found)),
+        jobs: |form| every(form.of(3, 4), |a, found| cases::each_pair_of_edits(a, found)),
+    },
+    Section {
+        name: "insertion_pairs",
+        what: "runs of every two commands of all codes on every small arena",
+        numbers: &[0],
+        jobs: |form| every(form.of(2, 3), |a, found| cases::each_pair_of_commands(a, found)),
     },
     Section {
         name: "compressions",
@@ -94,14 +106,20 @@ pub const SECTIONS: [Section; 15] = [
     Section {
         name: "sequences",
         what: "sequences of 500 calls on arenas of up to 200 slots, generations around 4,294,967,295",
-        numbers: &[0, 12, 13, 14, 15, 16, 100],
-        jobs: |form| sequences(form.of(5_000, 100_000)),
+        numbers: &[0, 12, 13, 14, 15, 16, 17, 18, 100],
+        jobs: |form| sequences(form.of(2_000, 40_000)),
     },
     Section {
         name: "large_sequences",
         what: "sequences of 80 calls on arenas of 2,048 to 65,535 slots",
-        numbers: &[0, 12],
+        numbers: &[0, 12, 17],
         jobs: |form| large_sequences(form.of(40, 800)),
+    },
+    Section {
+        name: "grown",
+        what: "sequences that fill and empty arenas of 0 to 65,535 slots, from empty on, with demand 3 by program",
+        numbers: &[0, 12, 13, 17, 18],
+        jobs: |form| grown(form.of(1_000, 20_000)),
     },
     Section {
         name: "long_runs",
@@ -157,12 +175,22 @@ fn tuples(longest: usize) -> Jobs {
     })
 }
 
+/// Every insertion on every arena up to a stack length, with room for none, one and two.
+fn insertions(longest: usize) -> Jobs {
+    let arenas: Vec<Arena> = (0..=longest).flat_map(cases::roomy_arenas).collect();
+    Jobs::new(arenas.len(), move |judge, _, number| {
+        let a = &arenas[number];
+        cases::each_insertion(a, |call| _ = judge.hold(a, &call));
+    })
+}
+
 /// The steps of every state that a walk comes through, on everything that one edit or compression makes of the arena.
 fn kept_states(longest: usize) -> Jobs {
     on_small_arenas(longest, |judge, a| {
         let mut later = HashSet::new();
         let mut changed = |call: Call| _ = later.insert(model_outcome(a, &call).arena);
         cases::each_edit(a, &mut changed);
+        cases::each_place(a, &mut changed);
         cases::each_compression(a, &mut changed);
         cases::each_walked_state(a, |walk| {
             for later in &later {
@@ -273,29 +301,35 @@ fn some_arena(r: &mut Random, stack: usize) -> Arena {
     random::whole(r, stack + (LIMIT - stack).min(3), stack, style)
 }
 
-/// Plays a sequence of calls on an arena, beside a crate arena that lives through all of it.
-fn play(judge: &mut Judge, r: &mut Random, mut a: Arena, calls: usize) {
+/// Plays a sequence of so many calls, each made for the arena as it is by then, beside a crate arena that lives through all
+/// of it. It answers the arena that is left, or none if a call failed.
+fn play(
+    judge: &mut Judge,
+    r: &mut Random,
+    mut a: Arena,
+    calls: usize,
+    mut make: impl FnMut(&mut Random, &Arena, &[Walk]) -> Call,
+) -> Option<Arena> {
     let mut live = Live::new(&a);
     let mut kept = Vec::new();
     for _ in 0..calls {
-        let call = some_call(r, &a, &kept);
-        let Some(expected) = judge.hold(&a, &call) else { return };
+        let call = make(r, &a, &kept);
+        let expected = judge.hold(&a, &call)?;
         if let Some(mismatch) = live.follow(&a, &call, &expected) {
-            return judge.fail(mismatch);
+            judge.fail(mismatch);
+            return None;
         }
         keep(&mut kept, &call, &expected.reply.words);
         a = expected.arena;
-        if a.links() == 0 && r.once_in(20) {
-            return;
-        }
     }
+    Some(a)
 }
 
 fn sequences(count: usize) -> Jobs {
     Jobs::new(count, |judge, r, _| {
         let most = r.pick(&[3, 8, 20, 60, 200]);
         let a = random::any_whole(r, most);
-        play(judge, r, a, 500);
+        play(judge, r, a, 500, some_call);
     })
 }
 
@@ -303,8 +337,47 @@ fn large_sequences(count: usize) -> Jobs {
     Jobs::new(count, |judge, r, _| {
         let stack = r.pick(&[LIMIT, LIMIT, LIMIT - 1, 40_000, 2_048]);
         let a = some_arena(r, stack);
-        play(judge, r, a, 80);
+        play(judge, r, a, 80, some_call);
     })
+}
+
+/// Sequences that begin with an empty arena, in which the number of links rises to the capacity, stays and falls. Those of
+/// many slots are of runs, those of few of single calls too.
+fn grown(count: usize) -> Jobs {
+    Jobs::new(count, |judge, r, number| {
+        let (capacity, calls, most) = match number % 100 {
+            0 => (LIMIT, 24, 40_000),
+            20 | 40 | 60 | 80 => (2_048, 60, 1_000),
+            _ => (r.pick(&[0, 1, 2, 3, 5, 8, 20, 100]), 300, 12),
+        };
+        let mut tide = Tide::Rising;
+        let a = random::empty(r, capacity);
+        let left = play(judge, r, a, calls, |r, a, kept| {
+            tide = match a.links() {
+                0 => Tide::Rising,
+                links if links == capacity && r.once_in(4) => r.pick(&[Tide::Level, Tide::Falling]),
+                _ if r.once_in(40) => r.pick(&[Tide::Rising, Tide::Rising, Tide::Level, Tide::Falling]),
+                _ => tide,
+            };
+            some_tidal_call(r, a, kept, most, tide)
+        });
+        if let Some(a) = left {
+            let call = Call::CompressCanonical(r.below(2) as u32, vec![9; capacity]);
+            judge.hold_to(demand_3, &a, &call);
+        }
+    })
+}
+
+/// Any call, or one that goes with the tide: a run of up to `most` commands, on small arenas also a single call.
+fn some_tidal_call(r: &mut Random, a: &Arena, kept: &[Walk], most: usize, tide: Tide) -> Call {
+    if r.once_in(8) {
+        return some_call(r, a, kept);
+    }
+    let commands = if a.capacity() < 1_000 && !r.once_in(4) { 1 } else { 1 + r.below(most) };
+    let fitting = !r.once_in(4);
+    let words = mixed_commands(r, a, commands, tide, fitting);
+    let alone = if commands == 1 { single(&words) } else { None };
+    alone.unwrap_or_else(|| Call::Run(words, vec![r.word(); commands]))
 }
 
 fn long_runs(count: usize) -> Jobs {
@@ -316,7 +389,10 @@ fn long_runs(count: usize) -> Jobs {
         if a.links() > 0 && r.once_in(2) {
             commands.extend(mixed_edits(r, &a, most, false));
         }
-        let answers = vec![r.word(); commands.len() / 5 + r.below(3)];
+        if r.once_in(2) {
+            commands = mixed_commands(r, &a, most, Tide::Level, false);
+        }
+        let answers = vec![r.word(); commands.len() / COMMAND_WORDS + r.below(3)];
         judge.hold(&a, &Call::Run(commands, answers));
     })
 }
@@ -325,7 +401,7 @@ fn single_calls(count: usize) -> Jobs {
     Jobs::new(count, |judge, r, _| {
         let a = random::any_whole(r, 60);
         let commands = some_commands(r, &a, 200);
-        let answers = vec![99; commands.len() / 5];
+        let answers = vec![99; commands.len() / COMMAND_WORDS];
         judge.hold_to(run_is_its_single_calls, &a, &Call::Run(commands, answers));
     })
 }
@@ -343,7 +419,7 @@ fn run_is_its_single_calls(
     };
     let differs = |what: String| Err(Mismatch::new("export", before, call, Some(run.clone()), Err(what)));
     let mut alone = before.clone();
-    for (k, (command, &answer)) in commands.chunks_exact(5).zip(answers).enumerate() {
+    for (k, (command, &answer)) in commands.chunks_exact(COMMAND_WORDS).zip(answers).enumerate() {
         let Some(single) = single(command) else { continue };
         let outcome = compare(product, &alone, &single, counts)?;
         if outcome.reply.number != answer {
@@ -354,16 +430,26 @@ fn run_is_its_single_calls(
     if run.arena != alone { differs("the single calls leave another arena".to_string()) } else { Ok(run) }
 }
 
-/// The single call that a command of a run stands for; none for another code or a slot over 65,535.
-fn single(command: &[u32]) -> Option<Call> {
+/// The single call that the words of a command stand for; none for another code, or if the command looks at a slot over
+/// 65,535.
+fn single(words: &[u32]) -> Option<Call> {
+    let &[code, p_slot, p_generation, q_slot, q_generation, payload]: &[u32; COMMAND_WORDS] =
+        words.try_into().ok()?;
     let ptr = |slot, generation| Some(Ptr { slot: u16::try_from(slot).ok()?, generation });
-    let p = ptr(command[1], command[2])?;
-    Some(match command[0] {
-        1 => Call::Connect(p, ptr(command[3], command[4])?),
-        2 => Call::BreakPrev(p),
-        3 => Call::BreakNext(p),
-        4 => Call::ExchangeNext(p, ptr(command[3], command[4])?),
-        5 => Call::Remove(p),
+    let (p, q) = (ptr(p_slot, p_generation), ptr(q_slot, q_generation));
+    let ignored = Ptr { slot: 0, generation: 0 };
+    Some(match code {
+        1 => Call::Connect(p?, q?),
+        2 => Call::BreakPrev(p?),
+        3 => Call::BreakNext(p?),
+        4 => Call::ExchangeNext(p?, q?),
+        5 => Call::Remove(p?),
+        kind if kind::ALL.contains(&kind) => {
+            let names = |place| kind::names(kind) > place;
+            let p = if names(0) { p? } else { p.unwrap_or(ignored) };
+            let q = if names(1) { q? } else { q.unwrap_or(ignored) };
+            Call::Insert(kind, p, q, payload)
+        }
         _ => return None,
     })
 }

@@ -5,7 +5,7 @@ use std::fmt;
 
 use crate::compare::{Mismatch, Outcome};
 use crate::words::argument_name;
-use crate::{Arena, Call, Reply};
+use crate::{Arena, COMMAND_WORDS, Call, Reply};
 
 /// How many slots and how many differences are printed at most.
 const LINES: usize = 40;
@@ -54,7 +54,7 @@ fn call_line(call: &Call) -> String {
         Some(name) => format!("{name} {word}"),
         None => word.to_string(),
     };
-    let arguments: Vec<String> = words.iter().enumerate().map(named).take(5 * LINES).collect();
+    let arguments: Vec<String> = words.iter().enumerate().map(named).take(COMMAND_WORDS * LINES).collect();
     let left_out = if words.len() > arguments.len() { ", .." } else { "" };
     let lent = match call.lent().len() {
         0 => String::new(),

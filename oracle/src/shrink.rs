@@ -7,7 +7,7 @@ use crate::compare::{Counts, Mismatch, Product};
 use crate::header::{GENERATION, LINKS, ROOT, STACK};
 use crate::runner::{Failure, Judgement, judged};
 use crate::words::{COMPRESS_CANONICAL, RUN, argument_name};
-use crate::{Arena, Call};
+use crate::{Arena, COMMAND_WORDS, Call};
 
 /// How long a case is made smaller at most; one of a few hundred slots takes a small part of it.
 const PATIENCE: Duration = Duration::from_secs(20);
@@ -51,7 +51,7 @@ impl<'a> Shrinker<'a> {
     fn round(&mut self) -> bool {
         let before = self.case.clone();
         self.by_blocks(slots, without_slots);
-        self.by_blocks(|case| if case.code == RUN { case.arguments.len() / 5 } else { 0 }, without_commands);
+        self.by_blocks(commands, without_commands);
         self.by_blocks(|case| case.lent.len(), |case, from, count| cut(&mut case.lent, from, count));
         self.zeros(|case| &mut case.arena.prev);
         self.zeros(|case| &mut case.arena.next);
@@ -148,9 +148,14 @@ fn slots(case: &mut Case) -> usize {
     a.prev.len().max(a.next.len()).max(a.generation.len()).max(a.payload.len())
 }
 
+/// The number of commands of a run.
+fn commands(case: &mut Case) -> usize {
+    if case.code == RUN { case.arguments.len() / COMMAND_WORDS } else { 0 }
+}
+
 /// Takes commands out of a run, and as many answers.
 fn without_commands(case: &mut Case, from: usize, count: usize) {
-    case.arguments.drain(5 * from..5 * (from + count));
+    case.arguments.drain(COMMAND_WORDS * from..COMMAND_WORDS * (from + count));
     case.lent.truncate(case.lent.len().saturating_sub(count));
 }
 

@@ -1,6 +1,8 @@
 //! A call as words and back, for the stored cases, for making a failing case smaller, and for printing it.
 
-use crate::{Call, Ptr, Walk};
+use std::iter::once;
+
+use crate::{COMMAND_WORDS, Call, Ptr, Walk};
 
 /// The calls in the order of their codes, from 1: name, names of the arguments, names of the result's further fields.
 #[rustfmt::skip]
@@ -23,12 +25,13 @@ const CALLS: &[(&str, &[&str], &[&str])] = &[
     ("run", COMMAND, &[]),
     ("compress_with", &["reset"], &[]),
     ("compress_canonical", &["reset"], &[]),
+    ("insert", &["kind", "slot", "generation", "slot", "generation", "payload"], POINTER),
 ];
 
 const POINTER: &[&str] = &["slot", "generation"];
 const POINTERS: &[&str] = &["slot", "generation", "slot", "generation"];
 const STATE: &[&str] = &["start", "position", "direction", "left"];
-const COMMAND: &[&str] = &["code", "slot", "generation", "slot", "generation"];
+const COMMAND: &[&str; COMMAND_WORDS] = &["code", "slot", "generation", "slot", "generation", "payload"];
 const LINK: &[&str] = &["prev", "next", "payload"];
 
 /// How many calls there are: their codes are 1 to this.
@@ -37,6 +40,8 @@ pub const CALLS_IN_ALL: usize = CALLS.len();
 pub const RUN: usize = 16;
 /// The code of a canonical compression.
 pub const COMPRESS_CANONICAL: usize = 18;
+/// The code of an insertion.
+pub const INSERT: usize = 19;
 
 impl Call {
     /// The call's place in the list of calls, from 1.
@@ -60,6 +65,7 @@ impl Call {
             Self::Run(..) => RUN,
             Self::CompressWith(..) => 17,
             Self::CompressCanonical(..) => COMPRESS_CANONICAL,
+            Self::Insert(..) => INSERT,
         }
     }
 
@@ -83,20 +89,25 @@ impl Call {
             | Self::BreakNext(p)
             | Self::Remove(p)
             | Self::Drain(p, _) => vec![*p],
-            Self::AreNeighbors(p, q) | Self::Connect(p, q) | Self::ExchangeNext(p, q) => vec![*p, *q],
+            Self::AreNeighbors(p, q)
+            | Self::Connect(p, q)
+            | Self::ExchangeNext(p, q)
+            | Self::Insert(_, p, q, _) => vec![*p, *q],
             _ => vec![],
         }
     }
 
     /// The words of its arguments; of a run the commands.
     pub fn arguments(&self) -> Vec<u32> {
+        let pointers = self.pointers().into_iter().flat_map(|p| [p.slot.into(), p.generation]);
         match self {
             Self::WalkStep(walk) => vec![walk.start, walk.position, walk.direction, walk.left],
             Self::SetGeneration(word) | Self::CompressWith(word, _) | Self::CompressCanonical(word, _) => {
                 vec![*word]
             }
             Self::Run(commands, _) => commands.clone(),
-            _ => self.pointers().iter().flat_map(|p| [p.slot.into(), p.generation]).collect(),
+            Self::Insert(kind, _, _, payload) => once(*kind).chain(pointers).chain(once(*payload)).collect(),
+            _ => pointers.collect(),
         }
     }
 
@@ -140,6 +151,7 @@ impl Call {
                 let places: Result<_, _> = lent.into_iter().map(u16::try_from).collect();
                 Self::CompressCanonical(word(0)?, places.ok()?)
             }
+            INSERT => Self::Insert(word(0)?, ptr(1)?, ptr(3)?, word(5)?),
             _ => return None,
         })
     }

@@ -3,6 +3,8 @@
 use chain_arena::{Link, LinkNoGen, Refusal};
 
 use crate::{Arena, Call, Ptr, Reply, Walk};
+#[cfg(level_two)]
+use crate::{COMMAND_WORDS, kind};
 
 /// The two words of a pointer, 0 and 0 for none.
 fn pointer_words(p: Option<Ptr>) -> [u32; 2] {
@@ -31,7 +33,7 @@ fn reply(answer: Result<(u32, Vec<u32>), Refusal>) -> Reply {
     }
 }
 
-/// Makes one call through the wrapper, or none if its level is not linked.
+/// Makes one call through the wrapper, or none if its level is not linked or it has no name for a kind of insertion.
 pub fn perform(a: &mut Arena, call: &mut Call) -> Option<Reply> {
     match call.level() {
         1 => Some(level_one(a, call)),
@@ -80,6 +82,10 @@ fn level_two(a: &mut Arena, call: &mut Call) -> Option<Reply> {
         Call::BreakPrev(p) => plain(arena.break_prev(*p)),
         Call::BreakNext(p) => plain(arena.break_next(*p)),
         Call::ExchangeNext(p, q) => plain(arena.exchange_next(*p, *q)),
+        Call::Insert(kind, p, q, payload) => {
+            let kind = insert_kind(*kind, *p, *q)?;
+            reply(arena.insert(kind, *payload).map(|p| (0, pointer_words(Some(p)).to_vec())))
+        }
         Call::Remove(p) => {
             reply(arena.remove(*p).map(|removed| (number(removed.overflowed), no_gen_words(removed.link))))
         }
@@ -123,20 +129,44 @@ fn run(arena: &mut chain_arena::ArenaMut<'_>, words: &[u32], answers: &mut [u32]
     Ok(())
 }
 
-/// The command of five words, none if they are no command. Words that a command ignores are not kept.
+/// The command of these words, none if they are no command. Words that a command ignores are not kept.
 #[cfg(level_two)]
-fn command(&[code, p, p_generation, q, q_generation]: &[u32; 5]) -> Option<chain_arena::Command> {
+fn command(words: &[u32; COMMAND_WORDS]) -> Option<chain_arena::Command> {
     use chain_arena::Command;
+    let &[code, p, p_generation, q, q_generation, payload] = words;
     let p = Ptr { slot: p.try_into().ok()?, generation: p_generation };
     let q = Ptr { slot: q.try_into().ok()?, generation: q_generation };
-    match code {
-        1 => Some(Command::Connect(p, q)),
-        2 => Some(Command::BreakPrev(p)),
-        3 => Some(Command::BreakNext(p)),
-        4 => Some(Command::ExchangeNext(p, q)),
-        5 => Some(Command::Remove(p)),
-        _ => None,
-    }
+    Some(match code {
+        1 => Command::Connect(p, q),
+        2 => Command::BreakPrev(p),
+        3 => Command::BreakNext(p),
+        4 => Command::ExchangeNext(p, q),
+        5 => Command::Remove(p),
+        kind => Command::Insert(insert_kind(kind, p, q)?, payload),
+    })
+}
+
+/// The wrapper's name for a kind of insertion with its pointers, none if there is no such kind.
+#[cfg(level_two)]
+fn insert_kind(kind: u32, p: Ptr, q: Ptr) -> Option<chain_arena::LinkInsertKind> {
+    use chain_arena::LinkInsertKind;
+    Some(match kind {
+        kind::DISCONNECTED => LinkInsertKind::Disconnected,
+        kind::SINGLE_LINK_CYCLIC => LinkInsertKind::SingleLinkCyclic,
+        kind::CHAIN_END => LinkInsertKind::ChainEnd(p),
+        kind::CHAIN_END_INX => LinkInsertKind::ChainEndInx(p.slot),
+        kind::CHAIN_START => LinkInsertKind::ChainStart(p),
+        kind::CHAIN_START_INX => LinkInsertKind::ChainStartInx(p.slot),
+        kind::NEXT_TO => LinkInsertKind::NextTo(p),
+        kind::NEXT_TO_INX => LinkInsertKind::NextToInx(p.slot),
+        kind::PREV_TO => LinkInsertKind::PrevTo(p),
+        kind::PREV_TO_INX => LinkInsertKind::PrevToInx(p.slot),
+        kind::AT_INTERLINK => LinkInsertKind::AtInterlink { next_to: p, prev_to: q },
+        kind::AT_INTERLINK_INX => LinkInsertKind::AtInterlinkInx { next_to: p.slot, prev_to: q.slot },
+        kind::BRIDGE => LinkInsertKind::Bridge { end: p, start: q },
+        kind::BRIDGE_INX => LinkInsertKind::BridgeInx { end: p.slot, start: q.slot },
+        _ => return None,
+    })
 }
 
 /// Level Two is not linked.

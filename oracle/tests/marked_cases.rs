@@ -1,7 +1,7 @@
-//! K1 to K12, by the model, the crate's text and the exports.
+//! K1 to K12 and some insertions, by the model, the crate's text and the exports.
 
 use oracle::compare::{Counts, compare};
-use oracle::{Arena, Call, Ptr, Reply, Walk, guards};
+use oracle::{Arena, Call, Ptr, Reply, Walk, guards, kind};
 
 /// An arena whose links all have generation 5, the current one: each slot's (prev, next), or (0, pointer) if it is free.
 fn arena(slots: &[(u16, u16)], free: &[usize], root: u32) -> Arena {
@@ -167,4 +167,92 @@ fn a_compression_that_overflows_says_so_and_a_reset_never_does() {
         assert_eq!(left.header, [3, 3, 0, 2]);
         assert_eq!(left.generation, [2, 2, 2]);
     }
+}
+
+/// The arena with room for so many more links, and words above the stack that mean nothing.
+fn with_room(mut a: Arena, room: usize) -> Arena {
+    let capacity = a.capacity() + room;
+    a.prev.resize(capacity, 9);
+    a.next.resize(capacity, 9);
+    a.generation.resize(capacity, 9);
+    a.payload.resize(capacity, 9);
+    a
+}
+
+/// The pointer that says nothing.
+const NONE: Ptr = Ptr { slot: 0, generation: 0 };
+
+#[test]
+fn a_lone_link_bridged_to_itself_is_a_closed_pair() {
+    for kind in [kind::BRIDGE, kind::BRIDGE_INX] {
+        let lone = with_room(arena(&[(0, 0)], &[], 0), 1);
+        let (replies, _, left) = play(lone, vec![Call::Insert(kind, p(1), p(1), 80)]);
+        assert_eq!(replies, [Reply::new(0, &[2, 5])]);
+        assert_eq!((left.prev, left.next), (vec![2, 1], vec![2, 1]));
+        assert_eq!(
+            (left.generation, left.payload, left.header),
+            (vec![5, 5], vec![70, 80], vec![2, 2, 0, 5])
+        );
+    }
+}
+
+#[test]
+fn a_link_beside_one_that_is_closed_alone_is_a_closed_pair() {
+    for kind in kind::NEXT_TO..=kind::AT_INTERLINK_INX {
+        let closed = with_room(arena(&[(1, 1)], &[], 0), 1);
+        let (replies, _, left) = play(closed, vec![Call::Insert(kind, p(1), p(1), 80)]);
+        assert_eq!(replies, [Reply::new(0, &[2, 5])]);
+        assert_eq!((left.prev, left.next), (vec![2, 1], vec![2, 1]));
+    }
+}
+
+#[test]
+fn an_insertion_takes_the_free_slots_and_then_the_one_behind_the_stack() {
+    // Slot 2 is a link, the root 3 leads to 1, and there is room for one more.
+    let before = with_room(arena(&[(0, 1), (0, 0), (0, 1)], &[1, 3], 3), 1);
+    let calls = (0..4).map(|payload| Call::Insert(kind::DISCONNECTED, NONE, NONE, payload)).collect();
+    let (replies, _, left) = play(before, calls);
+    let slots = [[3, 5], [1, 5], [4, 5]].map(|pointer| Reply::new(0, &pointer));
+    assert_eq!(replies[..3], slots);
+    assert_eq!(replies[3], Reply::number(18));
+    assert_eq!((left.prev, left.next), (vec![0; 4], vec![0; 4]));
+    assert_eq!((left.payload, left.header), (vec![1, 71, 0, 2], vec![4, 4, 0, 5]));
+}
+
+#[test]
+fn the_link_requirement_comes_before_the_capacity_and_an_unknown_kind_before_both() {
+    let calls = [(kind::CHAIN_END, 1), (kind::CHAIN_END, 3), (kind::NEXT_TO, 4), (20, 4)];
+    let calls = calls.map(|(kind, slot)| Call::Insert(kind, p(slot), NONE, 80)).to_vec();
+    let (replies, _, left) = play(three(), calls);
+    assert_eq!(numbers(&replies), [17, 18, 17, 16]);
+    assert_eq!(left, three());
+}
+
+#[test]
+fn the_generation_that_removals_have_raised_is_the_new_links() {
+    let again = Call::Insert(kind::AT_INTERLINK, p(1), p(3), 80);
+    let (replies, _, left) = play(three(), vec![Call::Remove(p(2)), again]);
+    assert_eq!(replies[1], Reply::new(0, &[2, 6]));
+    assert_eq!((left.prev, left.next), (vec![0, 1, 2], vec![2, 3, 0]));
+    assert_eq!((left.generation, left.header), (vec![5, 6, 5], vec![3, 3, 0, 6]));
+}
+
+#[test]
+fn a_run_names_the_links_that_it_inserted() {
+    let commands = [
+        [kind::DISCONNECTED, 0, 0, 0, 0, 70],
+        [kind::CHAIN_END, 1, 5, 0, 0, 71],
+        [kind::BRIDGE, 2, 5, 1, 5, 72],
+        [kind::DISCONNECTED, 0, 0, 0, 0, 73],
+        [5, 3, 5, 0, 0, 0],
+        [kind::PREV_TO_INX, 1, 0, 0, 0, 74],
+    ]
+    .concat();
+    let empty = with_room(arena(&[], &[], 0), 3);
+    let (replies, lent, left) = play(empty, vec![Call::Run(commands.clone(), vec![9; 6])]);
+    assert_eq!(numbers(&replies), [0]);
+    assert_eq!(lent, Call::Run(commands, vec![0, 0, 0, 18, 0, 0]));
+    assert_eq!((left.prev, left.next), (vec![3, 1, 2], vec![2, 3, 1]));
+    assert_eq!((left.generation, left.payload), (vec![5, 5, 6], vec![70, 71, 74]));
+    assert_eq!(left.header, [3, 3, 0, 6]);
 }

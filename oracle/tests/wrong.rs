@@ -9,7 +9,9 @@ use oracle::random::{self, Random};
 use oracle::runner::{Failure, Run};
 use oracle::sections::{Form, SECTIONS};
 use oracle::words::CALLS_IN_ALL;
-use oracle::{Arena, Call, Ptr, Reading, Reply, Walk, calls, cases, demand3, model, shrink};
+use oracle::{
+    Arena, COMMAND_WORDS, Call, Ptr, Reading, Reply, Walk, calls, cases, demand3, kind, model, shrink,
+};
 
 /// Every outcome that differs from the given one in one word.
 fn one_word_off(right: &Outcome) -> Vec<Outcome> {
@@ -208,16 +210,57 @@ const WRONG: &[(&str, &str, Wrong)] = &[
         if k == 0 { model::apply(a, command) } else { 0 }
     })),
     ("run", "slots cut to 16 bits", |a, call, o| run_as(a, call, o, |a, _, command| {
-        model::apply(a, &[command[0], command[1] & 0xffff, command[2], command[3] & 0xffff, command[4]])
+        let mut cut = command.to_vec();
+        cut[1] &= 0xffff;
+        cut[3] &= 0xffff;
+        model::apply(a, &cut)
     })),
     ("run", "12 before 16", |a, call, o| run_as(a, call, o, |a, _, command| {
         let stale = u16::try_from(command[1]).map_or(true, |s| !a.is_link(s.into()));
-        if stale { 12 } else { model::apply(a, command) }
+        if stale && !(1..=kind::BRIDGE_INX).contains(&command[0]) { 12 } else { model::apply(a, command) }
     })),
     ("run", "14 before 16", |_, call, o| if let (Call::Run(words, answers), 16) = (call, o.reply.number) {
-        if answers.len() < words.len() / 5 {
+        if answers.len() < words.len() / COMMAND_WORDS {
             o.reply.number = 14;
         }
+    }),
+    ("run", "five words a command", |a, call, o| if let Call::Run(words, answers) = call {
+        if matches!(o.reply.number, 0 | 14 | 16) {
+            five_words(a, words, answers, o);
+        }
+    }),
+    ("run", "five words from one command to the next", |a, call, o| if let Call::Run(words, _) = call {
+        run_as(a, call, o, |a, k, _| model::apply(a, &words[5 * k..]));
+    }),
+    ("run", "insertions unknown", |a, call, o| run_as(a, call, o, |a, _, command| {
+        if kind::ALL.contains(&command[0]) { 16 } else { model::apply(a, command) }
+    })),
+    ("run", "12 for 17", |a, call, o| run_as(a, call, o, |a, _, command| match model::apply(a, command) {
+        17 => 12,
+        answer => answer,
+    })),
+    ("run", "a kind by slot that takes slots cut to 16 bits", |a, call, o| run_as(a, call, o, |a, _, command| {
+        let mut cut = command.to_vec();
+        if kind::by_slot(command[0]) {
+            cut[1] &= 0xffff;
+            cut[3] &= 0xffff;
+        }
+        model::apply(a, &cut)
+    })),
+    ("run", "an ignored slot over 65,535 refused", |a, call, o| run_as(a, call, o, |a, _, command| {
+        let ignored = [1, 3].into_iter().skip(kind::names(command[0])).any(|word| command[word] > 65_535);
+        if ignored && kind::ALL.contains(&command[0]) { 17 } else { model::apply(a, command) }
+    })),
+    ("run", "the first command's payload for all", |a, call, o| if let Call::Run(words, _) = call {
+        run_as(a, call, o, |a, _, command| model::apply(a, &[&command[..5], &words[5..6]].concat()));
+    }),
+    ("run", "nothing done after an insertion that is refused", |a, call, o| if let Call::Run(..) = call {
+        let mut refused = false;
+        run_as(a, call, o, |a, _, command| {
+            let answer = if refused { 17 } else { model::apply(a, command) };
+            refused |= matches!(answer, 17 | 18);
+            answer
+        });
     }),
     ("compress_with", "old and new exchanged in the report", |_, _, o| if let Call::CompressWith(_, report) = &mut o.call {
         for words in report.chunks_exact_mut(4) {
@@ -260,7 +303,192 @@ const WRONG: &[(&str, &str, Wrong)] = &[
             (o.reply, o.arena) = (exact.reply, exact.arena);
         }
     }),
+    ("insert", "a kind by slot that asks for the generation", |a, call, o| if let Call::Insert(kind, p, q, payload) = call {
+        if kind::by_slot(*kind) {
+            instead(a, o, Call::Insert(kind - 1, *p, *q, *payload));
+        }
+    }),
+    ("insert", "a kind by pointer that does not look at the generation", |a, call, o| if let Call::Insert(kind, p, q, payload) = call {
+        if kind::names(*kind) > 0 && !kind::by_slot(*kind) {
+            instead(a, o, Call::Insert(kind + 1, *p, *q, *payload));
+        }
+    }),
+    ("insert", "the second generation not looked at", |a, call, o| if let Call::Insert(kind, p, q, payload) = call {
+        if kind::names(*kind) == 2 && model::check(a) == 0 && a.is_link(q.slot.into()) {
+            instead(a, o, Call::Insert(*kind, *p, a.ptr(q.slot.into()), *payload));
+        }
+    }),
+    ("insert", "ChainEnd behind a link that has a next", |a, call, o| another_kind(a, call, o, |kind| match kind {
+        kind::CHAIN_END | kind::CHAIN_END_INX => kind - kind::CHAIN_END + kind::NEXT_TO,
+        _ => kind,
+    })),
+    ("insert", "ChainStart before a link that has a prev", |a, call, o| another_kind(a, call, o, |kind| match kind {
+        kind::CHAIN_START | kind::CHAIN_START_INX => kind - kind::CHAIN_START + kind::PREV_TO,
+        _ => kind,
+    })),
+    ("insert", "NextTo and PrevTo exchanged", |a, call, o| another_kind(a, call, o, |kind| match kind {
+        kind::NEXT_TO | kind::NEXT_TO_INX => kind - kind::NEXT_TO + kind::PREV_TO,
+        kind::PREV_TO | kind::PREV_TO_INX => kind - kind::PREV_TO + kind::NEXT_TO,
+        _ => kind,
+    })),
+    ("insert", "a link closed alone left open", |a, call, o| another_kind(a, call, o, |kind| match kind {
+        kind::SINGLE_LINK_CYCLIC => kind::DISCONNECTED,
+        _ => kind,
+    })),
+    ("insert", "AtInterlink with its pointers exchanged", |a, call, o| if let Call::Insert(kind, p, q, payload) = call {
+        if matches!(*kind, kind::AT_INTERLINK | kind::AT_INTERLINK_INX) {
+            instead(a, o, Call::Insert(*kind, *q, *p, *payload));
+        }
+    }),
+    ("insert", "a bridge with its pointers exchanged", |a, call, o| if let Call::Insert(kind, p, q, payload) = call {
+        if matches!(*kind, kind::BRIDGE | kind::BRIDGE_INX) {
+            instead(a, o, Call::Insert(*kind, *q, *p, *payload));
+        }
+    }),
+    ("insert", "a bridge that forgets the start", |a, call, o| inserted(call, o, |kind, _, q, o| {
+        if matches!(kind, kind::BRIDGE | kind::BRIDGE_INX) {
+            o.arena.prev[q.slot as usize - 1] = a.prev[q.slot as usize - 1];
+        }
+    })),
+    ("insert", "a bridge to a link that has a prev", |a, call, o| if let (Call::Insert(kind, p, q, payload), 17) = (call, o.reply.number) {
+        if matches!(*kind, kind::BRIDGE | kind::BRIDGE_INX) && model::may_insert(a, kind - kind::BRIDGE + kind::CHAIN_END, *p, *q) {
+            instead(a, o, Call::Insert(kind - kind::BRIDGE + kind::PREV_TO, *q, *p, *payload));
+        }
+    }),
+    ("insert", "the prev of the link behind forgotten", |a, call, o| inserted(call, o, |kind, p, _, o| {
+        if matches!(kind, kind::NEXT_TO | kind::NEXT_TO_INX) && a.next[p.slot as usize - 1] != 0 {
+            let after = a.next[p.slot as usize - 1] as usize;
+            o.arena.prev[after - 1] = a.prev[after - 1];
+        }
+    })),
+    ("insert", "the old next read after the new one is written", |_, call, o| inserted(call, o, |kind, _, _, o| {
+        if matches!(kind, kind::NEXT_TO | kind::NEXT_TO_INX) {
+            let new = o.reply.words[0] as u16;
+            o.arena.next[new as usize - 1] = new;
+        }
+    })),
+    ("insert", "a root that pointed at itself kept", |a, call, o| inserted(call, o, |_, _, _, o| {
+        if a.root() != 0 && o.arena.root() == 0 {
+            o.arena.header[ROOT] = a.root();
+        }
+    })),
+    ("insert", "the whole freelist given up", |_, call, o| inserted(call, o, |_, _, _, o| o.arena.header[ROOT] = 0)),
+    ("insert", "the slot behind the stack although one is free", |a, call, o| inserted(call, o, |_, _, _, o| {
+        if a.root() != 0 && a.stack() < a.capacity() {
+            behind_the_stack(a, o);
+        }
+    })),
+    ("insert", "the generation raised", |_, call, o| inserted(call, o, |_, _, _, o| {
+        o.arena.header[GENERATION] = o.arena.header[GENERATION].wrapping_add(1).max(2);
+    })),
+    ("insert", "the next generation for the link", |_, call, o| inserted(call, o, |_, _, _, o| {
+        let slot = o.reply.words[0] as usize;
+        o.reply.words[1] = o.reply.words[1].wrapping_add(1).max(2);
+        o.arena.generation[slot - 1] = o.reply.words[1];
+    })),
+    ("insert", "18 before 17", |a, call, o| if let (Call::Insert(..), 17) = (call, o.reply.number) {
+        if a.root() == 0 && a.stack() == a.capacity() {
+            o.reply.number = 18;
+        }
+    }),
+    ("insert", "18 while a slot is free", |a, call, o| if let (Call::Insert(..), 0) = (call, o.reply.number) {
+        if a.stack() == a.capacity() {
+            refuse(a, call, o, 18);
+        }
+    }),
+    ("insert", "18 with room for one link", |a, call, o| if let (Call::Insert(..), 0) = (call, o.reply.number) {
+        if a.root() == 0 && a.stack() + 1 == a.capacity() {
+            refuse(a, call, o, 18);
+        }
+    }),
+    ("insert", "16 after 17", |a, call, o| if let (Call::Insert(_, p, ..), 16) = (call, o.reply.number) {
+        o.reply.number = if model_outcome(a, &Call::GetLink(*p)).reply.number == 12 { 17 } else { 16 };
+    }),
+    ("insert", "16 before the check", |_, call, o| if let Call::Insert(kind, ..) = call {
+        if !kind::ALL.contains(kind) {
+            o.reply = Reply::number(16);
+        }
+    }),
+    ("insert", "kinds cut to 16 bits", |a, call, o| if let Call::Insert(kind, p, q, payload) = call {
+        instead(a, o, Call::Insert(kind & 0xffff, *p, *q, *payload));
+    }),
+    ("insert", "a pointer tried that the kind does not name", |a, call, o| if let Call::Insert(kind, _, q, _) = call {
+        if kind::names(*kind) < 2 && o.reply.number == 0 && model_outcome(a, &Call::GetLink(*q)).reply.number != 0 {
+            refuse(a, call, o, 17);
+        }
+    }),
+    ("insert", "the payload written before 17", |a, call, o| if let (Call::Insert(_, _, _, payload), 17) = (call, o.reply.number) {
+        if let Some(word) = o.arena.payload.get_mut(model::slot_to_take(a) - 1) {
+            *word = *payload;
+        }
+    }),
+    ("insert", "a slot answered with 17", |a, call, o| if let (Call::Insert(..), 17) = (call, o.reply.number) {
+        o.reply.words[0] = model::slot_to_take(a) as u32;
+    }),
+    ("insert", "the old link count", |a, call, o| inserted(call, o, |_, _, _, o| o.arena.header[LINKS] = a.header[LINKS])),
+    ("insert", "the old stack length", |a, call, o| inserted(call, o, |_, _, _, o| o.arena.header[STACK] = a.header[STACK])),
+    ("insert", "the payload not written", |a, call, o| inserted(call, o, |_, _, _, o| {
+        let place = o.reply.words[0] as usize - 1;
+        o.arena.payload[place] = a.payload[place];
+    })),
+    ("insert", "old words left where there is no neighbour", |a, call, o| inserted(call, o, |_, _, _, o| {
+        let place = o.reply.words[0] as usize - 1;
+        if o.arena.prev[place] == 0 {
+            o.arena.prev[place] = a.prev[place];
+        }
+        if o.arena.next[place] == 0 {
+            o.arena.next[place] = a.next[place];
+        }
+    })),
 ];
+
+/// Runs commands of five words, without a payload.
+fn five_words(a: &Arena, words: &[u32], answers: &[u32], o: &mut Outcome) {
+    *o = Outcome {
+        reply: Reply::number(0),
+        call: Call::Run(words.to_vec(), answers.to_vec()),
+        arena: a.clone(),
+    };
+    if !words.len().is_multiple_of(5) {
+        o.reply.number = 16;
+    } else if answers.len() < words.len() / 5 {
+        o.reply.number = 14;
+    } else if let Call::Run(_, answers) = &mut o.call {
+        for (command, answer) in words.chunks_exact(5).zip(answers) {
+            *answer = model::apply(&mut o.arena, &[command, &[0]].concat());
+        }
+    }
+}
+
+/// Inserts in the way of another kind.
+fn another_kind(a: &Arena, call: &Call, o: &mut Outcome, other: impl Fn(u32) -> u32) {
+    if let Call::Insert(kind, p, q, payload) = call {
+        instead(a, o, Call::Insert(other(*kind), *p, *q, *payload));
+    }
+}
+
+/// Changes the outcome of an insertion that is done: kind, pointers, outcome.
+fn inserted(call: &Call, o: &mut Outcome, change: impl Fn(u32, Ptr, Ptr, &mut Outcome)) {
+    if let (Call::Insert(kind, p, q, _), 0) = (call, o.reply.number) {
+        change(*kind, *p, *q, o);
+    }
+}
+
+/// Puts the new link into the slot behind the stack and leaves the freelist as it was.
+fn behind_the_stack(a: &Arena, o: &mut Outcome) {
+    let (taken, new) = (o.reply.words[0] as usize, a.stack() + 1);
+    let b = &mut o.arena;
+    for word in b.prev.iter_mut().chain(&mut b.next).filter(|word| **word as usize == taken) {
+        *word = new as u16;
+    }
+    b.prev[new - 1] = b.prev[taken - 1];
+    b.next[new - 1] = b.next[taken - 1];
+    (b.generation[new - 1], b.payload[new - 1]) = (b.generation[taken - 1], b.payload[taken - 1]);
+    (b.prev[taken - 1], b.next[taken - 1]) = (a.prev[taken - 1], a.next[taken - 1]);
+    (b.generation[taken - 1], b.payload[taken - 1]) = (a.generation[taken - 1], a.payload[taken - 1]);
+    (b.header[STACK], b.header[ROOT]) = (new as u32, a.root());
+    o.reply.words[0] = new as u32;
+}
 
 /// Looks for a broken link by its next alone.
 fn only_next(a: &Arena, o: &mut Outcome) {
@@ -312,10 +540,10 @@ fn hide_overflow(o: &mut Outcome) {
 }
 
 /// Applies the commands of a run in another way: arena, number of the command from 0, command.
-fn run_as(a: &Arena, call: &Call, o: &mut Outcome, apply: impl Fn(&mut Arena, usize, &[u32]) -> u32) {
+fn run_as(a: &Arena, call: &Call, o: &mut Outcome, mut apply: impl FnMut(&mut Arena, usize, &[u32]) -> u32) {
     if let (Call::Run(commands, _), Call::Run(_, answers), 0) = (call, &mut o.call, o.reply.number) {
         o.arena = a.clone();
-        for (k, command) in commands.chunks_exact(5).enumerate() {
+        for (k, command) in commands.chunks_exact(COMMAND_WORDS).enumerate() {
             answers[k] = apply(&mut o.arena, k, command);
         }
     }
@@ -372,8 +600,10 @@ fn by_lowest(a: &Arena) -> Vec<usize> {
 /// The failure of the first of so many jobs of the sections of these names that finds a program out.
 fn failure(sections: &[&str], most: usize, threads: usize, product: Product) -> Option<Failure> {
     let run = Run { product, seed: 1, threads, most };
-    let mut named = SECTIONS.iter().filter(|section| sections.contains(&section.name));
-    named.find_map(|section| run.run(&(section.jobs)(Form::Short), |_| {}).1)
+    sections.iter().find_map(|name| {
+        let section = SECTIONS.iter().find(|section| section.name == *name).expect("a section");
+        run.run(&(section.jobs)(Form::Short), |_| {}).1
+    })
 }
 
 /// A wrong program as a side of the comparison.
@@ -391,13 +621,15 @@ fn found_out(sections: &[&str], most: usize, program: Wrong) -> Option<Box<Misma
     Some(shrink::smallest(failure(sections, most, 1, &product)?, &product))
 }
 
-/// The sections that go through every small case of a call; a refused step is found on damaged arenas alone.
+/// The sections that go through every small case of a call; a step, or a kind of an insertion, that is wrong about the check
+/// is found on damaged arenas alone.
 fn sections_of(call: &str) -> &'static [&'static str] {
     match call {
         "check" => &["tuples"],
         "get_link" | "get_link_no_gen" | "are_neighbors" | "walk_start" => &["reading"],
         "walk_step" => &["steps", "damage"],
-        "run" => &["edits", "pairs"],
+        "run" => &["insertion_pairs", "edits"],
+        "insert" => &["damage", "insertions"],
         "compress_with" | "compress_canonical" => &["compressions"],
         _ => &["edits"],
     }
@@ -421,7 +653,7 @@ fn what_random_cases_find_is_shown_on_a_small_one() {
     for (call, what, program) in WRONG {
         let shown = found_out(&["sequences", "damage"], 400, *program);
         let shown = shown.unwrap_or_else(|| panic!("{call}: {what}: passes for right"));
-        let small = shown.before.capacity() <= 4 && shown.call.arguments().len() <= 10;
+        let small = shown.before.capacity() <= 4 && shown.call.arguments().len() <= 2 * COMMAND_WORDS;
         assert!(small, "{call}: {what}: {shown}");
     }
 }

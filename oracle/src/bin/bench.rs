@@ -11,9 +11,10 @@ use std::env;
 use std::hint::black_box;
 use std::time::{Duration, Instant};
 
+use oracle::calls::{self, Tide};
 use oracle::compare::crate_text_found;
 use oracle::random::{self, Random, Style};
-use oracle::{Arena, Call, LIMIT, Ptr, Reading, calls, exports, model};
+use oracle::{Arena, COMMAND_WORDS, Call, LIMIT, Ptr, Reading, exports, model};
 
 /// How many times each side makes its call at least, and how often where one call takes long.
 const ROUNDS: usize = 31;
@@ -26,10 +27,11 @@ fn main() {
     if !crate_text_found() {
         println!("The crate's files are not at hand: the live comparison was skipped.");
     }
-    let sections: [(&str, usize, fn()); 7] = [
+    let sections: [(&str, usize, fn()); 8] = [
         ("check", 1, check_section),
         ("read", 1, read_section),
         ("run", 2, run_section),
+        ("grow", 2, grow_section),
         ("drain", 2, drain_section),
         ("canonical", 3, canonical_section),
         ("linear", 3, linear_section),
@@ -85,19 +87,96 @@ fn sum_chain(arena: &Arena, p: Ptr) -> u64 {
     links.map(|(p, link)| u64::from(p.slot) + u64::from(link.payload)).sum()
 }
 
-/// 100,000 mixed edits on 2,048 links: one run, its one check in its time, and for each edit the crate's own call, without
-/// a check. The crate's commands are taken apart beforehand, and both sides write an answer for each.
+/// The commands of a run whose figures are quoted.
+const COMMANDS: usize = 100_000;
+
+/// 100,000 mixed commands: one run, its one check in its time, and for each command the crate's own call. The crate's
+/// commands are taken apart beforehand, and both sides write an answer for each. First connects, breaks and exchanges on
+/// 2,048 links, where the crate makes no check; then commands of every kind, insertions and removals among them, where it
+/// makes one before them or none; then the same on more and more links, which must not take longer by the number of links.
 fn run_section() {
     println!("run: 100,000 edits (connect, break, exchange) on 2,048 links, nanoseconds an edit");
-    let (slots, edits) = (2_048, 100_000);
-    let style = Style { free: 0, longest: 8, even: true, scattered: true, closed: 2 };
-    let arena = alike(random::whole(&mut Random::new(1), slots, slots, style));
-    for (kind, fitting) in [("all of them done", true), ("of any links", false)] {
-        let commands = calls::mixed_edits(&mut Random::new(2), &arena, edits, fitting);
-        let ours = ours(&arena, Call::Run(commands.clone(), vec![0; edits]));
-        let theirs = crate_edits(&arena, &commands);
-        row(slots, kind, edits, &measure(ROUNDS, vec![Some(ours), theirs]));
+    let arena = chains_of_eight(2_048, 2_048);
+    for fitting in [true, false] {
+        let commands = calls::mixed_edits(&mut Random::new(2), &arena, COMMANDS, fitting);
+        let ours = ours(&arena, Call::Run(commands.clone(), vec![0; COMMANDS]));
+        let theirs = crate_edits(&arena, &commands, Checked::Never);
+        row(2_048, &done_of(&arena, &commands), COMMANDS, &measure(ROUNDS, vec![Some(ours), theirs]));
     }
+    println!(
+        "run: 100,000 commands of every kind, with insertions and removals, nanoseconds a command; the crate with one check \
+         before them, and without"
+    );
+    let nanos = mixed_run(2_048, true);
+    mixed_run(2_048, false);
+    let [more, most] = [16_384, LIMIT].map(|links| mixed_run(links, true) / nanos);
+    println!("  8 and 32 times the links take ours {more:.2} and {most:.2} times as long a command");
+}
+
+/// Measures a run of commands of every kind on so many links, fitting ones or not, and answers the nanoseconds of ours.
+fn mixed_run(links: usize, fitting: bool) -> f64 {
+    let arena = chains_of_eight((2 * links).min(LIMIT), links);
+    let commands = calls::mixed_commands(&mut Random::new(2), &arena, COMMANDS, Tide::Level, fitting);
+    assert_eq!(commands.len(), COMMAND_WORDS * COMMANDS);
+    let theirs = |checked| crate_edits(&arena, &commands, checked);
+    let ours = ours(&arena, Call::Run(commands.clone(), vec![0; COMMANDS]));
+    let medians = measure(ROUNDS, vec![Some(ours), theirs(Checked::Once), theirs(Checked::Never)]);
+    row(links, &done_of(&arena, &commands), COMMANDS, &medians);
+    medians.nanos[0].unwrap_or(0.0)
+}
+
+/// For each command of a run 0 if it is done, 1 if it is refused.
+fn refusals(arena: &Arena, commands: &[u32]) -> Vec<u32> {
+    let mut arena = arena.clone();
+    let answers = commands.chunks_exact(COMMAND_WORDS).map(|command| model::apply(&mut arena, command));
+    answers.map(|answer| u32::from(!matches!(answer, 0 | 100))).collect()
+}
+
+/// How many of the commands of a run are done, in words.
+fn done_of(arena: &Arena, commands: &[u32]) -> String {
+    let refusals = refusals(arena, commands);
+    match refusals.iter().sum() {
+        0 => "all of them done".to_string(),
+        refused => format!("any links, {:.0} % refused", 100.0 * f64::from(refused) / refusals.len() as f64),
+    }
+}
+
+/// An arena grown from empty until it is full: in one run, with its one check, and by single calls, each with a check of its
+/// own. The crate makes its check as often, or not at all.
+fn grow_section() {
+    println!("grow: from empty to so many links, nanoseconds a link; the crate with its checks, and without");
+    for (links, single) in [(2_048, false), (LIMIT, false), (2_048, true)] {
+        let empty = Arena { header: vec![0, 0, 0, 5], ..Arena::empty(links) };
+        for (kind, of_every_kind) in [("one chain", false), ("every kind", true)] {
+            let commands = calls::growth(&mut Random::new(4), &empty, of_every_kind);
+            let (ours, checked, how) = if single {
+                (one_by_one(&empty, &commands), Checked::Each, "single calls")
+            } else {
+                (ours(&empty, Call::Run(commands.clone(), vec![0; links])), Checked::Once, "one run")
+            };
+            let theirs = |checked| crate_growth(&empty, &commands, checked);
+            let medians = measure(ROUNDS, vec![Some(ours), theirs(checked), theirs(Checked::Never)]);
+            row(links, &format!("{how}, {kind}"), links, &medians);
+        }
+    }
+}
+
+/// Our side of insertions that are made call by call.
+fn one_by_one<'a>(arena: &'a Arena, commands: &[u32]) -> Side<'a> {
+    let call = |&[kind, p, p_generation, q, q_generation, payload]: &[u32; COMMAND_WORDS]| {
+        let ptr = |slot: u32, generation| Ptr { slot: slot as u16, generation };
+        Call::Insert(kind, ptr(p, p_generation), ptr(q, q_generation), payload)
+    };
+    let mut calls: Vec<Call> = commands.as_chunks().0.iter().map(call).collect();
+    Box::new(fresh(
+        || arena.clone(),
+        move |arena| {
+            for call in black_box(&mut calls) {
+                let reply = exports::perform(arena, call).expect("a level that is linked");
+                assert_eq!(reply.number, 0);
+            }
+        },
+    ))
 }
 
 /// The drain of one chain; both sides write the same report.
@@ -208,6 +287,12 @@ fn above_free(slots: usize) -> Arena {
     }
     a.header = vec![slots as u32, (slots - free) as u32, 1, 5];
     a
+}
+
+/// Links on scattered chains of eight, an eighth of them closed, with room up to a capacity.
+fn chains_of_eight(capacity: usize, links: usize) -> Arena {
+    let style = Style { free: 0, longest: 8, even: true, scattered: true, closed: 2 };
+    alike(random::whole(&mut Random::new(1), capacity, links, style))
 }
 
 /// The arena with generation 5 for all its links and the header.
@@ -321,6 +406,16 @@ fn row(slots: usize, kind: &str, items: usize, medians: &Medians) {
 
 // The crate's sides.
 
+/// When the crate checks its arena while it makes the calls of a run.
+#[derive(Clone, Copy)]
+enum Checked {
+    Never,
+    /// Before the first call
+    Once,
+    /// Before each call
+    Each,
+}
+
 #[cfg(crate_text)]
 type Crate = oracle::crate_side::CrateArena;
 
@@ -352,10 +447,41 @@ fn crate_side<'a>(arena: &'a Arena, call: impl Fn(&mut Crate) + 'a) -> Option<Si
 
 /// The crate's side of a run.
 #[cfg(crate_text)]
-fn crate_edits<'a>(arena: &'a Arena, commands: &[u32]) -> Option<Side<'a>> {
+fn crate_edits<'a>(arena: &'a Arena, commands: &[u32], checked: Checked) -> Option<Side<'a>> {
+    crate_side(arena, editing(arena, commands, checked)?)
+}
+
+/// The crate's side of a growth. Its slots have been in use before, as the words of our columns have.
+#[cfg(crate_text)]
+fn crate_growth<'a>(empty: &Arena, commands: &[u32], checked: Checked) -> Option<Side<'a>> {
+    let full = chains_of_eight(empty.capacity(), empty.capacity());
+    let make = move || {
+        let mut held = Crate::hold(&full).expect("an arena that passes");
+        held.clear(5);
+        held
+    };
+    Some(Box::new(fresh(make, editing(empty, commands, checked)?)))
+}
+
+/// What makes the crate's calls for the commands of a run on an arena. The crate refuses those that the model refuses.
+#[cfg(crate_text)]
+fn editing(arena: &Arena, commands: &[u32], checked: Checked) -> Option<impl Fn(&mut Crate) + use<>> {
     let edits = oracle::crate_side::Edit::of(commands)?;
-    let answers = RefCell::new(vec![0; edits.len()]);
-    crate_side(arena, move |held| held.edit(black_box(&edits), &mut answers.borrow_mut()))
+    let mut answers = vec![0; edits.len()];
+    Crate::hold(arena)?.edit(&edits, &mut answers);
+    assert_eq!(answers, refusals(arena, commands));
+    let answers = RefCell::new(answers);
+    Some(move |held: &mut Crate| {
+        let (edits, answers) = (black_box(&edits), &mut answers.borrow_mut());
+        match checked {
+            Checked::Never => held.edit(edits, answers),
+            Checked::Once => {
+                held.check_invariants().expect("an arena that passes");
+                held.edit(edits, answers);
+            }
+            Checked::Each => held.edit_checked(edits, answers),
+        }
+    })
 }
 
 // The crate's text is not at hand.
@@ -392,6 +518,11 @@ fn crate_side<'a>(_: &'a Arena, _: impl Fn(&mut Crate) + 'a) -> Option<Side<'a>>
 }
 
 #[cfg(not(crate_text))]
-fn crate_edits<'a>(_: &'a Arena, _: &[u32]) -> Option<Side<'a>> {
+fn crate_edits<'a>(_: &'a Arena, _: &[u32], _: Checked) -> Option<Side<'a>> {
+    None
+}
+
+#[cfg(not(crate_text))]
+fn crate_growth<'a>(_: &Arena, _: &[u32], _: Checked) -> Option<Side<'a>> {
     None
 }

@@ -9,7 +9,7 @@
 //!
 //! The cases come from fixed seeds: all arenas of up to five slots that pass the check, random ones of a few slots,
 //! generations around the largest, noise in words that are not read, and damaged arenas. Of each call and each number that
-//! it answers some are kept, and some more of each mark that a case can have.
+//! it answers some are kept, and some more of each mark that a case can have, as the kind of an insertion.
 
 use std::collections::BTreeMap;
 use std::fs;
@@ -20,15 +20,16 @@ use oracle::compare::{Outcome, crate_number, crate_outcome, crate_text_found, mo
 use oracle::header::GENERATION;
 use oracle::random::{self, Random};
 use oracle::words::CALLS_IN_ALL;
-use oracle::{Arena, Call, Reading, Reply, cases};
+use oracle::{Arena, COMMAND_WORDS, Call, Reading, Reply, cases, kind};
 
 /// The programs, each with the codes of its calls.
-const PROGRAMS: [(&str, &[usize]); 5] = [
+const PROGRAMS: [(&str, &[usize]); 6] = [
     ("replay_read", &[1, 2, 3, 4, 5, 6]),
     ("replay_edits", &[7, 8, 9, 10, 13, 14, 15]),
     ("replay_removal", &[11, 12]),
     ("replay_run", &[16]),
     ("replay_compress", &[17, 18]),
+    ("replay_insert", &[19]),
 ];
 
 /// The most slots of a case, and the most words of its arguments or of the slice that it lends.
@@ -38,9 +39,11 @@ const WORDS: usize = 64;
 /// How many cases of each call are tried. Each call has seeds of its own, so that a new call leaves the cases of the others as they are.
 const SEEDS: u64 = 25_000;
 
-/// How many cases of a call with a number are kept at least for each mark, and how many if the check refuses the arena.
+/// How many cases of a call with a number are kept at least for each mark, how many if the check refuses the arena, and how
+/// many for each command of a run or kind of an insertion.
 const KEPT: usize = 14;
 const KEPT_BROKEN: usize = 3;
+const KEPT_OF_KIND: usize = 3;
 
 fn main() {
     if !crate_text_found() {
@@ -61,10 +64,10 @@ fn main() {
         let by_crate = answered.is_some();
         let after = answered.unwrap_or_else(|| model_outcome(&before, &call));
         let number = after.reply.number;
-        let keys = marks(&before, &call, number, by_crate).map(|mark| (code, number, mark));
-        let wanted = if (1..=11).contains(&number) { KEPT_BROKEN } else { KEPT };
-        if keys.clone().any(|key| marked.get(&key).is_none_or(|&cases| cases < wanted)) {
-            keys.for_each(|key| *marked.entry(key).or_default() += 1);
+        let marks = marks(&before, &after, by_crate);
+        let key = |mark: &Mark| (code, number, *mark);
+        if marks.iter().any(|mark| marked.get(&key(mark)).is_none_or(|&cases| cases < mark.wanted(number))) {
+            marks.iter().for_each(|mark| *marked.entry(key(mark)).or_default() += 1);
             kept.entry((code, number)).or_default().push([case, answer_line(&after)]);
             by_model += usize::from(!by_crate);
         }
@@ -154,13 +157,53 @@ enum Mark {
     FreeEnd,
     /// There is room above the stack
     Room,
+    /// An insertion of this kind, and what there is for it
+    Kind(u32, ToTake),
+    /// The run has a command of this code with this answer
+    Command(u32, u32),
 }
 
-/// The marks of a case; of a call that the check refuses only whose answer it is.
-fn marks(before: &Arena, call: &Call, number: u32, by_crate: bool) -> impl Iterator<Item = Mark> + Clone {
+/// Which slot there is for an insertion.
+#[derive(Clone, Copy, PartialEq, Eq, PartialOrd, Ord)]
+enum ToTake {
+    /// A root that leads on to another free slot
+    Root,
+    /// A root that points at itself
+    LastFree,
+    /// The slot behind the stack
+    BehindStack,
+    /// None
+    Nothing,
+}
+
+impl ToTake {
+    /// What there is in an arena that passes the check.
+    fn of(a: &Arena) -> Self {
+        match a.root() as usize {
+            0 if a.stack() == a.capacity() => Self::Nothing,
+            0 => Self::BehindStack,
+            root if a.next[root - 1] as usize == root => Self::LastFree,
+            _ => Self::Root,
+        }
+    }
+}
+
+impl Mark {
+    /// How many cases of a number are kept at least for it.
+    fn wanted(self, number: u32) -> usize {
+        match self {
+            _ if (1..=11).contains(&number) => KEPT_BROKEN,
+            Self::Kind(..) | Self::Command(..) => KEPT_OF_KIND,
+            _ => KEPT,
+        }
+    }
+}
+
+/// The marks of a case, by what it leaves; of a call that the check refuses only whose answer it is.
+fn marks(before: &Arena, after: &Outcome, by_crate: bool) -> Vec<Mark> {
     let mut marks = vec![if by_crate { Mark::ByCrate } else { Mark::ByModel }];
-    if !(1..=11).contains(&number) {
-        let (stack, pointers) = (before.stack(), call.pointers());
+    if !(1..=11).contains(&after.reply.number) {
+        let (stack, pointers) = (before.stack(), after.call.pointers());
         let p = pointers.first().copied();
         let slot = p.map(|p| usize::from(p.slot));
         let link = slot.filter(|&slot| before.is_link(slot));
@@ -177,8 +220,22 @@ fn marks(before: &Arena, call: &Call, number: u32, by_crate: bool) -> impl Itera
         mark(before.links() == 0, Mark::NoLinks);
         mark(stack > 0 && !before.is_link(stack), Mark::FreeEnd);
         mark(stack < before.capacity(), Mark::Room);
+        marks.extend(marks_of_kind(before, after));
     }
-    marks.into_iter()
+    marks
+}
+
+/// The marks of an insertion and of a run's commands.
+fn marks_of_kind(before: &Arena, after: &Outcome) -> Vec<Mark> {
+    match &after.call {
+        Call::Insert(kind, ..) if kind::ALL.contains(kind) => vec![Mark::Kind(*kind, ToTake::of(before))],
+        Call::Run(words, answers) if after.reply.number == 0 => {
+            let code = |command: &[u32]| if command[0] <= kind::BRIDGE_INX { command[0] } else { 0 };
+            let commands = words.chunks_exact(COMMAND_WORDS).map(code);
+            commands.zip(answers).map(|(code, &answer)| Mark::Command(code, answer)).collect()
+        }
+        _ => vec![],
+    }
 }
 
 /// What the crate answers and leaves, if its types can hold the case and it has the call.
@@ -298,6 +355,7 @@ mod tests {
             14 => &[100],
             16 => &[14, 16],
             17 | 18 => &[14, 100],
+            19 => &[16, 17, 18],
             _ => &[],
         };
         (0..=11).chain(own.iter().copied()).collect()
@@ -333,6 +391,40 @@ mod tests {
             .flat_map(|code| numbers(code).into_iter().map(move |number| (code as u32, number)));
         assert_eq!(kinds, all.collect());
         assert!(stored.len() >= 2_000);
+    }
+
+    /// Every kind of an insertion is there, done on each slot that there can be for it, refused with 18 and, if it names
+    /// links, with 17; and the runs have every command with every answer that it can have.
+    #[test]
+    fn stored_insertions_and_commands_are_of_every_kind() {
+        let mut found = BTreeSet::new();
+        for (case, _) in stored() {
+            let (before, call) = case_of(&case);
+            let after = model_outcome(&before, &call);
+            let number = after.reply.number;
+            if !(1..=11).contains(&number) {
+                found.extend(marks_of_kind(&before, &after).into_iter().map(|mark| (number, mark)));
+            }
+        }
+        for kind in kind::ALL {
+            let mut wanted = vec![(18, Mark::Kind(kind, ToTake::Nothing))];
+            for to_take in [ToTake::Root, ToTake::LastFree, ToTake::BehindStack] {
+                wanted.push((0, Mark::Kind(kind, to_take)));
+            }
+            wanted.extend([0, 18].map(|answer| (0, Mark::Command(kind, answer))));
+            if kind::names(kind) > 0 {
+                wanted.push((17, Mark::Kind(kind, ToTake::Nothing)));
+                wanted.push((17, Mark::Kind(kind, ToTake::BehindStack)));
+                wanted.push((0, Mark::Command(kind, 17)));
+            }
+            assert!(wanted.iter().all(|mark| found.contains(mark)), "kind {kind}");
+        }
+        for (code, answers) in [(0, [16].as_slice()), (5, &[0, 12, 100])] {
+            assert!(answers.iter().all(|&answer| found.contains(&(0, Mark::Command(code, answer)))));
+        }
+        for code in 1..=4 {
+            assert!([0, 12, 13].iter().all(|&answer| found.contains(&(0, Mark::Command(code, answer)))));
+        }
     }
 
     /// Each stored answer is the model's, and the crate's where its files are at hand and it has one.
