@@ -5,10 +5,11 @@ mod xml;
 
 use crate::Shown;
 use crate::arguments::How;
+use crate::format::text;
 use crate::judged::Judged;
 use crate::panel::Panel;
 use crate::picture::Picture;
-use crate::random::{Random, text};
+use crate::random::Random;
 use crate::svg;
 
 /// Words that damaged texts are made of, and how many of them, the first ones, are small numbers.
@@ -44,7 +45,7 @@ const SMALL: usize = 9;
 /// A text with a few of its bytes, words or lines changed, left out or doubled.
 fn damaged(text: &str, random: &mut Random) -> Vec<u8> {
     let mut lines: Vec<Vec<String>> =
-        text.lines().map(|line| line.split(' ').map(str::to_string).collect()).collect();
+        text.lines().map(|line| line.split_whitespace().map(str::to_string).collect()).collect();
     for _ in 0..random.below(4) {
         let place = random.below(lines.len());
         let word = random.below(lines[place].len().max(1));
