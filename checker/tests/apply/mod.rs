@@ -492,3 +492,68 @@ fn commands_are_applied_to_the_largest_arena() {
             .starts_with("standard input: passes the check: 65534 links on 1 open and 0 closed chains, ")
     );
 }
+
+/// The part of docs/FORMAT.md that is about commands.
+fn document() -> String {
+    let all = fs::read_to_string(Path::new(env!("CARGO_MANIFEST_DIR")).join("../docs/FORMAT.md")).unwrap();
+    let part = all.split("\n## Applying commands\n").nth(1).unwrap();
+    part.split("\n## ").next().unwrap().to_string()
+}
+
+#[test]
+fn every_command_is_in_the_document_as_it_is_read() {
+    let document = document();
+    let cells = document.lines().filter_map(|line| line.strip_prefix("| `")?.split('|').next());
+    let forms: Vec<&str> = cells.flat_map(|cell| cell.trim_end_matches(['`', ' ']).split("`, `")).collect();
+    assert_eq!(forms.len(), 19);
+    let mut lines = String::new();
+    for form in &forms {
+        let by_slot = form.contains("_inx ");
+        let argument = |word: &str| match word {
+            "PAYLOAD" => "7".to_string(),
+            _ if word.chars().any(char::is_lowercase) => word.to_string(),
+            _ => if by_slot { "1" } else { "1:5" }.to_string(),
+        };
+        lines += &format!("{}\n", form.split(' ').map(argument).collect::<Vec<_>>().join(" "));
+        // What a word is called in a message is what it is called in the document.
+        let words: Vec<&str> = form.split(' ').collect();
+        let names = words.iter().take_while(|word| word.chars().any(char::is_lowercase)).count();
+        let command = words[..names].join(" ");
+        let ran = apply("document", SAMPLE.as_bytes(), command.as_bytes(), &[]);
+        assert!(
+            ran.stderr.contains(&format!("expected {} of `{command}`, ", words[names])),
+            "{}",
+            ran.stderr
+        );
+    }
+    let ran = apply("document", SAMPLE.as_bytes(), lines.as_bytes(), &[]);
+    assert!(ran.stdout.starts_with("# FILE, after COMMANDS: 19 commands, "), "{}", ran.stderr);
+    for name in [COMMANDS, KINDS].into_iter().flat_map(|names| names.split('`').skip(1).step_by(2)) {
+        assert!(forms.iter().any(|form| form.split(' ').any(|word| word == name)), "{name}");
+    }
+}
+
+#[test]
+fn what_the_document_shows_is_what_is_said() {
+    let document = document();
+    let shown = document.lines().filter_map(|line| line.strip_prefix("    "));
+    let said: Vec<&str> = shown.clone().skip_while(|line| !line.starts_with("# whole.txt")).collect();
+    let stored = fs::read_to_string(arenas().join("whole.apply.out")).unwrap();
+    assert!(said.len() > 10);
+    for line in said.iter().filter(|line| **line != "..") {
+        assert!(stored.lines().any(|stored| stored == *line), "{line}");
+    }
+    let edits = fs::read_to_string(arenas().join("edits.txt")).unwrap();
+    let commands: Vec<&str> = shown.clone().filter(|line| line.starts_with("insert ")).collect();
+    assert!(!commands.is_empty() && commands.iter().all(|command| edits.contains(command)));
+    for message in shown.filter_map(|line| line.strip_prefix("COMMANDS:")) {
+        let text = match message.split(',').next().unwrap() {
+            "1:1: found `conect`" => "conect 1:5 2:5",
+            "4:13: found `2`" => "\n\n\nconnect 1:5 2",
+            "6:22: found `1:5`" => "\n\n\n\n\ninsert chain_end_inx 1:5 7",
+            "7:20: found the end of the line" => "\n\n\n\n\n\ninsert disconnected",
+            other => panic!("{other}"),
+        };
+        is_told("shown", text.as_bytes(), message);
+    }
+}
