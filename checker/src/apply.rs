@@ -68,7 +68,8 @@ pub fn applied(before: Judged, commands: &Commands, around: Option<u32>) -> Resu
         return Ok(before.around(around)?.show());
     }
     let mut arena = before.arena.clone();
-    let outcomes = outcomes(&mut arena, &commands.list).map_err(|why| format!("{}: {why}", before.name))?;
+    let outcomes =
+        outcomes(&mut arena, &commands.list, run).map_err(|why| format!("{}: {why}", before.name))?;
     let after = Judged::new(format!("{}, after {}", before.name, commands.name), arena);
     // A slot may be new, or gone; but it must be somewhere.
     let after = if is_off_stack(&before, around) { after.around(around)? } else { after };
@@ -84,14 +85,18 @@ pub fn applied(before: Judged, commands: &Commands, around: Option<u32>) -> Resu
     })
 }
 
-/// Applies commands to a whole arena, and answers what became of each.
-fn outcomes(arena: &mut OwnedArena, commands: &[Given]) -> Result<Vec<Outcome>, String> {
+/// Applies commands to a whole arena by a run and by single calls, which must say and leave the same. Answers what became of
+/// each command.
+fn outcomes(arena: &mut OwnedArena, commands: &[Given], run: Run) -> Result<Vec<Outcome>, String> {
     let mut other = arena.clone();
     let answers = run(arena, commands).map_err(|refusal| refusal.to_string())?;
     let outcomes: Vec<Outcome> = commands.iter().map(|given| single(&mut other, given.command)).collect();
-    agree((&answers, arena), (&outcomes, &other))?;
-    Ok(outcomes)
+    let same = outcomes.iter().map(Outcome::answer).eq(answers) && *arena == other;
+    if same { Ok(outcomes) } else { Err("the run and the single calls do not come to the same".to_string()) }
 }
+
+/// How commands are applied as one run.
+type Run = fn(&mut OwnedArena, &[Given]) -> Result<Vec<Result<Done, Refusal>>, Refusal>;
 
 /// Applies commands as one run, and answers what is said of each.
 fn run(arena: &mut OwnedArena, commands: &[Given]) -> Result<Vec<Result<Done, Refusal>>, Refusal> {
@@ -117,15 +122,6 @@ fn single(arena: &mut OwnedArena, command: Command) -> Outcome {
         Command::Insert(kind, payload) => lent.insert(kind, payload).map(Outcome::Inserted),
     }
     .unwrap_or_else(|refusal| Outcome::Refused(refusal, why(arena, command, refusal)))
-}
-
-/// That a run says and leaves the same as the single calls.
-fn agree(
-    (answers, left): (&[Result<Done, Refusal>], &OwnedArena),
-    (outcomes, left_singly): (&[Outcome], &OwnedArena),
-) -> Result<(), String> {
-    let same = outcomes.iter().map(Outcome::answer).eq(answers.iter().copied()) && left == left_singly;
-    if same { Ok(()) } else { Err("the run and the single calls do not come to the same".to_string()) }
 }
 
 /// Whether a slot is asked for that is not on the stack.
@@ -288,20 +284,31 @@ mod tests {
 
     #[test]
     fn a_run_that_parts_from_the_single_calls_is_found_out() {
-        let mut left = OwnedArena::empty(2);
         let commands = given("insert disconnected 7\nremove 2:2\nremove 1:2");
-        let outcomes = outcomes(&mut left, &commands).unwrap();
-        let answers: Vec<Result<Done, Refusal>> = outcomes.iter().map(Outcome::answer).collect();
-        assert_eq!(agree((&answers, &left), (&outcomes, &left)), Ok(()));
-        for k in 0..answers.len() {
-            let mut other = answers.clone();
-            other[k] = Ok(Done { overflowed: true });
-            assert!(agree((&other, &left), (&outcomes, &left)).is_err());
+        let made = |run: Run| outcomes(&mut OwnedArena::empty(2), &commands, run).map(|made| made.len());
+        let parts = Err("the run and the single calls do not come to the same".to_string());
+        assert_eq!(made(run), Ok(3));
+        // An answer too few, one too many, a wrong one, and a wrong word in the arena.
+        let wrong: [Run; 4] = [
+            |arena, commands| run(arena, commands).map(|answers| answers[1..].to_vec()),
+            |arena, commands| run(arena, commands).map(|answers| [&answers[..], &answers[..1]].concat()),
+            |arena, commands| {
+                let mut answers = run(arena, commands)?;
+                answers[2] = Ok(Done { overflowed: true });
+                Ok(answers)
+            },
+            |arena, commands| {
+                let answers = run(arena, commands)?;
+                arena.payload[1] = 1;
+                Ok(answers)
+            },
+        ];
+        for run in wrong {
+            assert_eq!(made(run), parts);
         }
-        assert!(agree((&answers[..2], &left), (&outcomes, &left)).is_err());
-        let mut other = left.clone();
-        other.payload[1] = 1;
-        assert!(agree((&answers, &other), (&outcomes, &left)).is_err());
+        let broken =
+            outcomes(&mut OwnedArena::default(), &commands, |_, _| Err(Done::answer(2).unwrap_err()));
+        assert_eq!(broken, Err("refused with 2: the current generation is 0 or 1".to_string()));
     }
 
     #[test]
@@ -310,7 +317,7 @@ mod tests {
             let mut arena = OwnedArena::empty(2);
             arena.header[3] = u32::MAX;
             let given = given(text);
-            let outcomes = outcomes(&mut arena, &given).unwrap();
+            let outcomes = outcomes(&mut arena, &given, run).unwrap();
             Report { given: &given, outcomes }.told()
         };
         let line = |k: usize| {

@@ -143,6 +143,22 @@ header 0 0 0 2
 }
 
 #[test]
+fn what_became_of_commands_stands_below_each_other() {
+    // One that is longer than 40 characters does not draw the others out.
+    let [short, almost] = ["remove 9:9".to_string(), format!("remove {}9:9", "0".repeat(29))];
+    let long = "insert at_interlink_inx 65535 65535 4294967295";
+    let ran = apply("width", PLAIN.as_bytes(), format!("{short}\n{almost}\n{long}").as_bytes(), &[]);
+    let said: Vec<&str> = ran.stdout.lines().skip(1).take(3).collect();
+    let stale = "refused with 12: 9:9 is stale: slot 9 is not on the stack, whose length is 6";
+    let expected = [
+        format!("#   line 1  {short}{}  {stale}", " ".repeat(30)),
+        format!("#   line 2  {almost}   {stale}"),
+        format!("#   line 3  {long}  refused with 17: slot 65535 is not on the stack, whose length is 6"),
+    ];
+    assert_eq!(said, expected);
+}
+
+#[test]
 fn an_arena_grows_from_nothing() {
     let commands =
         "insert disconnected 10\ninsert chain_end 1:2 20\ninsert bridge 2:2 1:2 30\ninsert disconnected 40";
