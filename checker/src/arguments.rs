@@ -3,7 +3,7 @@
 use std::ffi::{OsStr, OsString};
 
 use crate::files::{Source, Target};
-use crate::quote::quoted;
+use crate::quote::{listed, quoted};
 
 /// What is asked for.
 #[derive(Debug, PartialEq, Eq)]
@@ -28,6 +28,8 @@ pub enum Command {
     Check(Source),
     Compress(Source, How),
     Compare(Source, Source),
+    /// An arena, and the commands that are applied to it
+    Apply(Source, Source),
     Samples,
 }
 
@@ -36,7 +38,7 @@ impl Command {
     pub fn sources(&self) -> Vec<&Source> {
         match self {
             Self::Check(file) | Self::Compress(file, _) => vec![file],
-            Self::Compare(a, b) => vec![a, b],
+            Self::Compare(a, b) | Self::Apply(a, b) => vec![a, b],
             Self::Samples => Vec::new(),
         }
     }
@@ -54,7 +56,7 @@ pub struct How {
 /// The options that stand alone or with a value, besides those that name a file to write. With each, the commands it goes
 /// with.
 const OPTIONS: [(&str, &[&str]); 3] =
-    [(RESET, &["compress"]), (ORDER_PRESERVING, &["compress"]), (AROUND, &["check", "compress"])];
+    [(RESET, &["compress"]), (ORDER_PRESERVING, &["compress"]), (AROUND, &["check", "compress", "apply"])];
 const RESET: &str = "--reset";
 const ORDER_PRESERVING: &str = "--order-preserving";
 const AROUND: &str = "--around";
@@ -123,7 +125,7 @@ impl Given {
         for (name, commands) in OPTIONS {
             let fits = self.names.first().is_some_and(|command| commands.iter().any(|name| command == name));
             if self.value(name).is_some() && !fits {
-                return Err(format!("`{name}` goes with `{}` only", commands.join("` and `")));
+                return Err(format!("`{name}` goes with {} only", listed(commands.iter().copied(), "and")));
             }
         }
         let around = self.value(AROUND).map(slot).transpose()?;
@@ -140,12 +142,8 @@ impl Given {
         match name.to_str() {
             Some("check") => exactly("check", files).map(|[file]| Command::Check(file)),
             Some("compress") => exactly("compress", files).map(|[file]| Command::Compress(file, self.how())),
-            Some("compare") => match exactly("compare", files)? {
-                [Source::StandardInput, Source::StandardInput] => {
-                    Err("`compare - -`: standard input can be read only once".to_string())
-                }
-                [a, b] => Ok(Command::Compare(a, b)),
-            },
+            Some("compare") => two("compare", files).map(|[a, b]| Command::Compare(a, b)),
+            Some("apply") => two("apply", files).map(|[file, commands]| Command::Apply(file, commands)),
             _ => Err(format!("unknown command {}", quoted(&name.to_string_lossy()))),
         }
     }
@@ -218,6 +216,16 @@ fn source(word: &OsString) -> Source {
     if word == "-" { Source::StandardInput } else { Source::File(word.into()) }
 }
 
+/// Two files, of which one may be standard input.
+fn two(command: &str, files: Vec<Source>) -> Result<[Source; 2], String> {
+    match exactly(command, files)? {
+        [Source::StandardInput, Source::StandardInput] => {
+            Err(format!("`{command} - -`: standard input can be read only once"))
+        }
+        files => Ok(files),
+    }
+}
+
 /// So many files, no more and no fewer.
 fn exactly<const N: usize>(command: &str, files: Vec<Source>) -> Result<[Source; N], String> {
     let needed = if N == 1 { "one file" } else { "two files" };
@@ -258,6 +266,8 @@ mod tests {
         assert_eq!(job(&["check", "./-"]).command, Command::Check(file("./-")));
         assert_eq!(job(&["compress", "f"]).command, Command::Compress(file("f"), How::default()));
         assert_eq!(job(&["compare", "a", "-"]).command, Command::Compare(file("a"), Source::StandardInput));
+        assert_eq!(job(&["apply", "-", "c"]).command, Command::Apply(Source::StandardInput, file("c")));
+        assert_eq!(job(&["apply", "a", "-"]).command, Command::Apply(file("a"), Source::StandardInput));
         assert_eq!(job(&["check", "--", "--svg"]).command, Command::Check(file("--svg")));
         assert_eq!(job(&["--", "check", "--"]).command, Command::Check(file("--")));
     }
@@ -270,6 +280,7 @@ mod tests {
         assert_eq!(job(&["compress", "f", "--order-preserving", "--reset"]).command, how(true, true));
         assert_eq!(job(&["check", "--around", "65535", "f"]).around, Some(65_535));
         assert_eq!(job(&["check", "--around=007", "f"]).around, Some(7));
+        assert_eq!(job(&["apply", "f", "--around", "1", "c"]).around, Some(1));
         let target = |option, path: &str| Target { option, path: path.into() };
         assert_eq!(job(&["--svg", "-x"]).targets, [target("--svg", "-x")]);
         assert_eq!(
@@ -321,7 +332,14 @@ mod tests {
             (&["check", "f", "--reset"], "`--reset` goes with `compress` only"),
             (&["--reset"], "`--reset` goes with `compress` only"),
             (&["compare", "a", "b", "--order-preserving"], "`--order-preserving` goes with `compress` only"),
-            (&["compare", "a", "b", "--around", "1"], "`--around` goes with `check` and `compress` only"),
+            (&["apply", "a"], "`apply` needs two files, but only one is given"),
+            (&["apply", "a", "b", "c"], "`apply` needs two files, but 3 are given"),
+            (&["apply", "-", "-"], "`apply - -`: standard input can be read only once"),
+            (&["apply", "a", "b", "--reset"], "`--reset` goes with `compress` only"),
+            (
+                &["compare", "a", "b", "--around", "1"],
+                "`--around` goes with `check`, `compress` and `apply` only",
+            ),
         ] {
             assert_eq!(asked(words), Err(message.to_string()), "{words:?}");
         }

@@ -2,17 +2,13 @@
 
 use std::fmt::{Display, Write};
 
-use chain_arena::{Header, NewGeneration, OwnedArena, Refusal, Slot};
+use chain_arena::{NewGeneration, OwnedArena, Refusal, Slot};
 
 use crate::Shown;
 use crate::arguments::How;
 use crate::by_slot::BySlot;
-use crate::judged::{Judged, rows};
+use crate::judged::{Judged, OVERFLOWED, header, rows};
 use crate::panel::Panel;
-
-/// What is told of a compression that made the generation overflow.
-const OVERFLOWED: &str =
-    "the generation overflowed, from 4294967295 to 2: pointers kept from before may name other links";
 
 /// An arena after its compression, with the old slot of each link by its new one.
 pub struct Compressed {
@@ -112,12 +108,6 @@ fn done(how: How) -> String {
     let how_ordered =
         if how.order_preserving { "compressed in the order of its slots" } else { "canonically compressed" };
     format!("{how_ordered}{}", if how.reset { " with reset" } else { "" })
-}
-
-/// The header's words by name.
-fn header(arena: &OwnedArena) -> String {
-    let Header { stack_length, link_count, root, generation } = arena.header();
-    format!("stack length {stack_length}, link count {link_count}, root {root}, generation {generation}")
 }
 
 /// The words of a slot that are read: of a free slot only its next, above the stack none.

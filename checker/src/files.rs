@@ -11,7 +11,7 @@ use crate::quote::{plain, quoted};
 /// How many links may lead from one to the other, as everywhere on Linux.
 const LINKS: usize = 40;
 
-/// Where the text of an arena comes from.
+/// Where the text of an arena or of commands comes from.
 #[derive(Clone, Debug, PartialEq, Eq)]
 pub enum Source {
     StandardInput,

@@ -1,5 +1,7 @@
 //! An arena with what the check says of it.
 
+#[cfg(any(feature = "level-two", feature = "level-three"))]
+use chain_arena::Header;
 use chain_arena::{OwnedArena, Refusal};
 
 use crate::Shown;
@@ -10,6 +12,11 @@ use crate::format;
 use crate::panel::Panel;
 use crate::picture::Picture;
 use crate::wording::counted;
+
+/// What is told where the generation overflowed.
+#[cfg(any(feature = "level-two", feature = "level-three"))]
+pub const OVERFLOWED: &str =
+    "the generation overflowed, from 4294967295 to 2: pointers kept from before may name other links";
 
 /// An arena with what the check says of it, and the slot whose chain alone is shown, if not all is.
 pub struct Judged {
@@ -40,15 +47,7 @@ impl Judged {
     /// Shows only the chain of a slot, if one is given, which must be on the stack.
     pub fn around(self, around: Option<u32>) -> Result<Self, String> {
         match around.filter(|slot| !self.arena.stack().contains(slot)) {
-            Some(slot) if slot <= self.arena.header().stack_length => {
-                let capacity = counted(self.arena.capacity(), "slot");
-                Err(format!("{}: there is no slot {slot}, since the columns have only {capacity}", self.name))
-            }
-            Some(slot) => Err(format!(
-                "{}: slot {slot} is not on the stack, whose length is {}",
-                self.name,
-                self.arena.header().stack_length
-            )),
+            Some(slot) => Err(format!("{}: {}", self.name, off_stack(&self.arena, slot))),
             None => Ok(Self { around, ..self }),
         }
     }
@@ -96,6 +95,24 @@ pub fn rows(arena: &OwnedArena, around: Option<u32>) -> String {
         Some(slot) => picture.around(slot).text(around),
         None => picture.text(None),
     }
+}
+
+/// Why a slot is not on the stack.
+pub fn off_stack(arena: &OwnedArena, slot: u32) -> String {
+    let stack = arena.header().stack_length;
+    if slot <= stack {
+        let capacity = counted(arena.capacity(), "slot");
+        format!("there is no slot {slot}, since the columns have only {capacity}")
+    } else {
+        format!("slot {slot} is not on the stack, whose length is {stack}")
+    }
+}
+
+/// The header's words by name.
+#[cfg(any(feature = "level-two", feature = "level-three"))]
+pub fn header(arena: &OwnedArena) -> String {
+    let Header { stack_length, link_count, root, generation } = arena.header();
+    format!("stack length {stack_length}, link count {link_count}, root {root}, generation {generation}")
 }
 
 /// What a whole arena holds, in numbers.

@@ -3,10 +3,14 @@
 
 #[cfg(feature = "level-three")]
 mod alike;
+#[cfg(feature = "level-two")]
+mod apply;
 mod arguments;
 mod by_slot;
 #[cfg(feature = "level-three")]
 mod chains;
+#[cfg(feature = "level-two")]
+mod commands;
 #[cfg(feature = "level-three")]
 mod compare;
 #[cfg(feature = "level-three")]
@@ -16,11 +20,16 @@ mod files;
 mod format;
 mod html;
 mod judged;
+mod lines;
+#[cfg(feature = "level-two")]
+mod nearest;
 mod panel;
 mod picture;
 mod quote;
 #[cfg(test)]
 mod random;
+#[cfg(feature = "level-two")]
+mod refused;
 #[cfg(test)]
 mod robust;
 mod svg;
@@ -30,6 +39,8 @@ use std::env;
 use std::io::{self, ErrorKind, Write};
 use std::process::ExitCode;
 
+#[cfg(feature = "level-two")]
+use apply::apply;
 use arguments::{Asked, Command, How, Job};
 use judged::Judged;
 use panel::Panel;
@@ -42,21 +53,22 @@ commands:
   check FILE           says which rule the arena breaks, at which slots and why, or lists its chains
   compress FILE        shows the arena before and after canonical compression, and where each link came from
   compare A B          says whether two arenas hold the same chains of payloads, and where they first differ
+  apply FILE COMMANDS  applies a list of edits, says what became of each, and prints the arena that is left
   none                 checks and compresses an arena of its own, and explains a broken one
 options:
   --reset              for compress: the links get generation 2, not the next one
   --order-preserving   for compress: the links stay in the order of their slots
-  --around SLOT        for check and compress: shows only the chain of a slot
+  --around SLOT        for check, compress and apply: shows only the chain of a slot
   --svg OUT            draws what is shown
   --html OUT           makes a page of it for a browser, to be searched and followed by a click
   -h, --help           prints this
   -V, --version        prints the version
   --                   what follows is no option
-FILE, A and B: `-` is standard input. docs/FORMAT.md describes the text.
+FILE, A, B and COMMANDS: `-` is standard input. docs/FORMAT.md describes both texts.
 status:
-  0                    the arena passes the check; the two hold the same
-  1                    it is refused; they do not, or one is refused
-  2                    wrong use, a file that cannot be read or written, or a text that is no arena
+  0                    the arena passes the check; the two hold the same; every command was done
+  1                    it is refused; they do not, or one is refused; a command was refused
+  2                    wrong use, a file that cannot be read or written, or a text that is no arena or no commands
 ";
 
 const VERSION: &str = concat!("checker ", env!("CARGO_PKG_VERSION"), "\n");
@@ -83,6 +95,12 @@ impl Shown {
     fn text(text: &str) -> Self {
         Self { text: text.to_string(), panels: Vec::new(), passes: true }
     }
+}
+
+/// Level Two is not linked.
+#[cfg(not(feature = "level-two"))]
+fn apply(_: Judged, _: &files::Source, _: Option<u32>) -> Result<Shown, String> {
+    Err("apply needs Level Two: build with the feature level-two".to_string())
 }
 
 /// Level Three is not linked.
@@ -117,6 +135,7 @@ fn done(job: Job) -> Result<Shown, String> {
         Command::Check(file) => Judged::read(file)?.around(job.around)?.show(),
         Command::Compress(file, how) => compress(&Judged::read(file)?.around(job.around)?, *how)?,
         Command::Compare(a, b) => compare(&Judged::read(a)?, &Judged::read(b)?)?,
+        Command::Apply(file, commands) => apply(Judged::read(file)?, commands, job.around)?,
         Command::Samples => samples()?,
     };
     for target in &job.targets {

@@ -23,9 +23,28 @@ pub fn quoted(word: &str) -> String {
     }
 }
 
+/// Names between backquotes, with a word such as `or` before the last one.
+pub fn listed<'n>(names: impl Iterator<Item = &'n str>, word: &str) -> String {
+    let mut names: Vec<String> = names.map(quoted).collect();
+    let last = names.pop().unwrap_or_default();
+    if names.is_empty() { last } else { format!("{} {word} {last}", names.join(", ")) }
+}
+
 #[cfg(test)]
 mod tests {
     use super::*;
+
+    #[test]
+    fn names_are_listed() {
+        for (names, list) in [
+            (&[][..], ""),
+            (&["a"], "`a`"),
+            (&["a", "b"], "`a` or `b`"),
+            (&["a", "b", "c"], "`a`, `b` or `c`"),
+        ] {
+            assert_eq!(listed(names.iter().copied(), "or"), list);
+        }
+    }
 
     #[test]
     fn a_word_is_quoted_safely() {

@@ -1,6 +1,10 @@
 //! Arenas for tests: made of chains, and random ones.
 
 use chain_arena::OwnedArena;
+#[cfg(feature = "level-two")]
+use chain_arena::{Command, LinkInsertKind, Ptr, Slot};
+#[cfg(feature = "level-two")]
+use {crate::by_slot::BySlot, crate::commands::written};
 
 /// Numbers that look random and are the same in every run.
 pub struct Random(u64);
@@ -85,17 +89,105 @@ fn arena(chains: &[Payloads], slots: &[u16]) -> OwnedArena {
     arena
 }
 
-/// The text of any arena, as docs/FORMAT.md tells it.
-pub fn text(arena: &OwnedArena) -> String {
-    let header: Vec<String> = arena.header.iter().map(u32::to_string).collect();
-    let mut text = format!("header {}\n", header.join(" "));
-    for k in 0..arena.capacity() {
-        let word = |word: Option<String>| word.unwrap_or("-".to_string());
-        let (prev, next) = (arena.prev.get(k).map(u16::to_string), arena.next.get(k).map(u16::to_string));
-        let generation = arena.generation.get(k).map(u32::to_string);
-        let payload = arena.payload.get(k).map(u32::to_string);
-        let words = [prev, next, generation, payload].map(word).join(" ");
-        text += &format!("{} {words}\n", k + 1);
+/// How many commands there are, each with other pointers.
+#[cfg(feature = "level-two")]
+pub const COMMANDS: usize = 19;
+
+/// The command of a number below 19 that names two links, as far as it names any.
+#[cfg(feature = "level-two")]
+pub fn command(number: usize, [p, q]: [Ptr; 2], payload: u32) -> Command {
+    use LinkInsertKind as Kind;
+    let kind = match number {
+        0 => return Command::Connect(p, q),
+        1 => return Command::BreakPrev(p),
+        2 => return Command::BreakNext(p),
+        3 => return Command::ExchangeNext(p, q),
+        4 => return Command::Remove(p),
+        5 => Kind::Disconnected,
+        6 => Kind::SingleLinkCyclic,
+        7 => Kind::ChainEnd(p),
+        8 => Kind::ChainEndInx(p.slot),
+        9 => Kind::ChainStart(p),
+        10 => Kind::ChainStartInx(p.slot),
+        11 => Kind::NextTo(p),
+        12 => Kind::NextToInx(p.slot),
+        13 => Kind::PrevTo(p),
+        14 => Kind::PrevToInx(p.slot),
+        15 => Kind::AtInterlink { next_to: p, prev_to: q },
+        16 => Kind::AtInterlinkInx { next_to: p.slot, prev_to: q.slot },
+        17 => Kind::Bridge { end: p, start: q },
+        18 => Kind::BridgeInx { end: p.slot, start: q.slot },
+        _ => panic!("there is no command {number}"),
+    };
+    Command::Insert(kind, payload)
+}
+
+/// The text of a command, as docs/FORMAT.md tells it.
+#[cfg(feature = "level-two")]
+pub fn text_of(command: Command) -> String {
+    use LinkInsertKind as Kind;
+    let one = |name: &str, p| format!("{name} {}", written(p));
+    let two = |name: &str, p, q| format!("{name} {} {}", written(p), written(q));
+    match command {
+        Command::Connect(p, q) => two("connect", p, q),
+        Command::BreakPrev(p) => one("break_prev", p),
+        Command::BreakNext(p) => one("break_next", p),
+        Command::ExchangeNext(p, q) => two("exchange_next", p, q),
+        Command::Remove(p) => one("remove", p),
+        Command::Insert(kind, payload) => {
+            let kind = match kind {
+                Kind::Disconnected => "disconnected".to_string(),
+                Kind::SingleLinkCyclic => "single_link_cyclic".to_string(),
+                Kind::ChainEnd(p) => one("chain_end", p),
+                Kind::ChainEndInx(slot) => format!("chain_end_inx {slot}"),
+                Kind::ChainStart(p) => one("chain_start", p),
+                Kind::ChainStartInx(slot) => format!("chain_start_inx {slot}"),
+                Kind::NextTo(p) => one("next_to", p),
+                Kind::NextToInx(slot) => format!("next_to_inx {slot}"),
+                Kind::PrevTo(p) => one("prev_to", p),
+                Kind::PrevToInx(slot) => format!("prev_to_inx {slot}"),
+                Kind::AtInterlink { next_to, prev_to } => two("at_interlink", next_to, prev_to),
+                Kind::AtInterlinkInx { next_to, prev_to } => format!("at_interlink_inx {next_to} {prev_to}"),
+                Kind::Bridge { end, start } => two("bridge", end, start),
+                Kind::BridgeInx { end, start } => format!("bridge_inx {end} {start}"),
+            };
+            format!("insert {kind} {payload}")
+        }
     }
-    text
+}
+
+#[cfg(feature = "level-two")]
+impl Random {
+    /// A pointer to somewhere in an arena or right behind it, mostly a good one.
+    pub fn ptr(&mut self, arena: &OwnedArena) -> Ptr {
+        let links: Vec<u32> = arena.stack().filter(|&slot| arena.is_link(slot)).collect();
+        let slot = match links.len() {
+            count if count > 0 && self.below(10) > 0 => links[self.below(count)],
+            _ => self.below(arena.stack().count() + 3) as u32,
+        };
+        let generation = arena.generation(slot).wrapping_add((self.below(20) == 0).into());
+        Ptr { slot: slot as Slot, generation }
+    }
+
+    /// A command on an arena. Its pointers are mostly good ones, and the second is often the next of the first.
+    pub fn command(&mut self, arena: &OwnedArena) -> Command {
+        let p = self.ptr(arena);
+        let next = arena.next(p.slot.into());
+        let q = match self.below(3) {
+            0 => Ptr { slot: next as Slot, generation: arena.generation(next) },
+            _ => self.ptr(arena),
+        };
+        command(self.below(COMMANDS), [p, q], self.below(1000) as u32)
+    }
+}
+
+/// Adds room above the stack, in which there are words that mean nothing.
+#[cfg(feature = "level-two")]
+pub fn add_room(arena: &mut OwnedArena, room: usize) {
+    for k in 0..room as u32 {
+        arena.prev.push(900 + k as u16);
+        arena.next.push(1 + k as u16);
+        arena.generation.push(7 * (k % 2));
+        arena.payload.push(u32::MAX - k);
+    }
 }

@@ -3,15 +3,22 @@
 #[path = "../tests/xml/mod.rs"]
 mod xml;
 
+#[cfg(feature = "level-two")]
+use chain_arena::OwnedArena;
+
 use crate::Shown;
 use crate::arguments::How;
+use crate::format::text;
 use crate::judged::Judged;
 use crate::panel::Panel;
 use crate::picture::Picture;
-use crate::random::{Random, text};
+use crate::random::Random;
 use crate::svg;
+#[cfg(feature = "level-two")]
+use crate::{apply::applied, commands::Commands, format, random::text_of};
 
-/// Words that damaged texts are made of, and how many of them, the first ones, are small numbers.
+/// Words that damaged texts of arenas are made of, and how many of them, the first ones, are small numbers, which leave a text
+/// an arena.
 const WORDS: [&str; 24] = [
     "0",
     "1",
@@ -41,10 +48,43 @@ const WORDS: [&str; 24] = [
 
 const SMALL: usize = 9;
 
-/// A text with a few of its bytes, words or lines changed, left out or doubled.
-fn damaged(text: &str, random: &mut Random) -> Vec<u8> {
+/// Words that damaged texts of commands are made of, and how many of them, the first ones, leave a text what it is.
+#[cfg(feature = "level-two")]
+const COMMAND_WORDS: [&str; 24] = [
+    "1:5",
+    "2:5",
+    "3:7",
+    "0:0",
+    "65535:4294967295",
+    "1",
+    "2",
+    "65535",
+    "remove",
+    "insert",
+    "connect",
+    "disconnected",
+    "bridge_inx",
+    "65536:1",
+    "1:4294967296",
+    "99999999999999999999",
+    ":",
+    "1:",
+    "-1:5",
+    "#",
+    "\u{feff}",
+    "\u{2028}",
+    "\0",
+    "]]>&<",
+];
+
+#[cfg(feature = "level-two")]
+const POINTERS: usize = 5;
+
+/// A text with a few of its bytes, words or lines changed, left out or doubled. What is put in is mostly one of so many first
+/// words.
+fn damaged(text: &str, (words, first): (&[&str], usize), random: &mut Random) -> Vec<u8> {
     let mut lines: Vec<Vec<String>> =
-        text.lines().map(|line| line.split(' ').map(str::to_string).collect()).collect();
+        text.lines().map(|line| line.split_whitespace().map(str::to_string).collect()).collect();
     for _ in 0..random.below(4) {
         let place = random.below(lines.len());
         let word = random.below(lines[place].len().max(1));
@@ -53,9 +93,8 @@ fn damaged(text: &str, random: &mut Random) -> Vec<u8> {
             1 => lines.insert(place, lines[place].clone()),
             2 if !lines[place].is_empty() => drop(lines[place].remove(word)),
             _ => {
-                // Mostly small numbers, so that the text stays an arena.
-                let words = if random.below(4) == 0 { WORDS.len() } else { SMALL };
-                let other = WORDS[random.below(words)].to_string();
+                let count = if random.below(4) == 0 { words.len() } else { first };
+                let other = words[random.below(count)].to_string();
                 match lines[place].get_mut(word) {
                     Some(word) => *word = other,
                     None => lines[place].push(other),
@@ -111,7 +150,7 @@ fn damaged_texts_do_no_harm() {
     for round in 0..4000 {
         let chains = random.chains(round % 5, 4, 9);
         let arena = random.arena(&chains, round % 3);
-        let bytes = damaged(&text(&arena), &mut random);
+        let bytes = damaged(&text(&arena), (&WORDS, SMALL), &mut random);
         let name = format!("{}<\u{1}\u{ffff}&\"'>]]>", round);
         seen[match Judged::parse(name.clone(), &bytes) {
             Err(message) => {
@@ -165,5 +204,72 @@ fn many_faults_do_no_harm() {
     let whole = Judged::new(String::new(), random.arena(&chains, 0));
     for slot in [1, 7, 40_000] {
         assert!(!show(Judged::new(String::new(), arena.clone()), &whole, slot));
+    }
+}
+
+/// Applies commands to an arena. What is left must be an arena again if it was one.
+#[cfg(feature = "level-two")]
+fn apply(arena: &OwnedArena, commands: &Commands, around: Option<u32>) {
+    let judged = Judged::new(String::new(), arena.clone());
+    let whole = judged.refused.is_none();
+    match applied(judged, commands, around) {
+        Ok(shown) => {
+            draw(&shown.panels);
+            assert_eq!(shown.panels.len(), if whole { 2 } else { 1 });
+            if whole {
+                let left = Judged::parse(String::new(), shown.text.as_bytes()).unwrap();
+                assert!(left.refused.is_none() && left.arena == shown.panels[1].arena);
+            }
+        }
+        Err(message) => assert!(around.is_some() && message.contains(" slot "), "{message}"),
+    }
+}
+
+#[cfg(feature = "level-two")]
+#[test]
+fn damaged_commands_do_no_harm() {
+    let mut random = Random::new(11);
+    // Texts that are no commands, and such that are.
+    let mut seen = [0; 2];
+    for round in 0..4000 {
+        let chains = random.chains(round % 5, 4, 9);
+        let arena = random.arena(&chains, round % 3);
+        let lines: Vec<String> = (0..1 + random.below(5)).map(|_| text_of(random.command(&arena))).collect();
+        let bytes = damaged(&lines.join("\n"), (&COMMAND_WORDS, POINTERS), &mut random);
+        let name = "a<\u{1}\u{ffff}&\"'>]]>".to_string();
+        match Commands::parse(name.clone(), &bytes) {
+            Err(message) => {
+                let message = message.strip_prefix(&name).unwrap();
+                assert!(message.contains(": found ") && !message.contains(char::is_control), "{message}");
+                seen[0] += 1;
+            }
+            Ok(commands) => {
+                let around = Some(random.below(12) as u32).filter(|_| round % 2 == 0);
+                apply(&arena, &commands, around);
+                let broken = format::parse(&damaged(&text(&arena), (&WORDS, SMALL), &mut random));
+                apply(&broken.unwrap_or_default(), &commands, around);
+                seen[1] += 1;
+            }
+        }
+    }
+    assert!(seen.iter().all(|&count| count > 300), "{seen:?}");
+}
+
+#[cfg(feature = "level-two")]
+#[test]
+fn whatever_bytes_there_are_do_no_harm() {
+    let mut random = Random::new(12);
+    let alphabet = b"insert conect_remv:0123456789#\r\n\t \xff\xc3\xa9\xef\xbb\xbf\0\x1b";
+    for round in 0..20_000 {
+        let byte = |random: &mut Random| match round % 2 {
+            0 => random.below(256) as u8,
+            _ => alphabet[random.below(alphabet.len())],
+        };
+        let bytes: Vec<u8> = (0..random.below(40)).map(|_| byte(&mut random)).collect();
+        for message in
+            [Commands::parse(String::new(), &bytes).err(), Judged::parse(String::new(), &bytes).err()]
+        {
+            assert!(message.is_none_or(|message| !message.contains(char::is_control)), "{bytes:?}");
+        }
     }
 }

@@ -1,5 +1,7 @@
 //! The checker, run as a tester runs it: what it says, what it draws and how it ends.
 
+#[cfg(feature = "level-two")]
+mod apply;
 mod xml;
 
 use std::fs::{self, File};
@@ -254,14 +256,14 @@ fn that_two_arenas_hold_the_same_is_drawn() {
 }
 
 /// The two panels of a picture, each from its title on.
-#[cfg(feature = "level-three")]
+#[cfg(any(feature = "level-two", feature = "level-three"))]
 fn panels(picture: &str) -> [&str; 2] {
     let panels: Vec<&str> = picture.split("<text class=\"title\" x=\"20\" y=").skip(1).collect();
     [panels[0], panels[1]].map(|panel| panel.split_once('>').unwrap().1)
 }
 
 /// What is said of a panel below its title.
-#[cfg(feature = "level-three")]
+#[cfg(any(feature = "level-two", feature = "level-three"))]
 fn verdicts(panel: &str) -> Vec<&str> {
     let lines = panel.lines().skip(1).take_while(|line| line.starts_with("<text "));
     lines.map(|line| line.split_once('>').unwrap().1.split('<').next().unwrap()).collect()
@@ -271,6 +273,14 @@ fn verdicts(panel: &str) -> Vec<&str> {
 #[test]
 fn without_arguments_it_shows_arenas_of_its_own() {
     says(&[], "samples.out", 0);
+}
+
+#[cfg(not(feature = "level-two"))]
+#[test]
+fn applying_commands_needs_level_two() {
+    let ran = checker(&["apply", "whole.txt", "edits.txt"]);
+    let message = "apply needs Level Two: build with the feature level-two\n";
+    assert_eq!((ran.stdout.as_str(), ran.stderr.as_str(), ran.status), ("", message, 2));
 }
 
 #[cfg(not(feature = "level-three"))]
