@@ -1,16 +1,16 @@
 -- Laws of insertion: what the code's stores leave is what the definitions say. Assumes nothing.
-use Prim.Native.Nat.{ℕ, _+_, _-_, _≤_, _<_}
-use mathlib.Core.Bool.{Bool, cond}
+use Prim.Native.Nat.{ℕ, _+_, _-_}
+use mathlib.Core.Bool.{cond}
 use mathlib.Core.List.{List}
 use mathlib.Core.Path.{_≡_, refl, sym, _∙_}
 use native.Mathlib.Omega.{arith}
 use lib.Dec.{eqb}
-use lib.ListN.{length, getD, set}
+use lib.ListN.{getD, set}
 use borrow.Author.Tests.{eq-eqb, ne-eqb}
 use Rattle.definitions.proofs.Columns.{put-place}
 use Rattle.definitions.specs.Arena.{Arena, arena}
 use Rattle.definitions.specs.Columns.{at, put}
-use Rattle.definitions.specs.Insert.{newSlot, rootAfter, headerAfter, inserted}
+use Rattle.definitions.specs.Insert.{rootAfter, headerAfter, inserted}
 use Rattle.base_insertion.specs.Insertion.{Insertable}
 
 -- f, where the root r points, is the root itself, or another slot

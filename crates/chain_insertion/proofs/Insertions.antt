@@ -1,14 +1,13 @@
 -- The reply to an insertion: the slot that was chosen, the place that was found, and what writing the link there left. Assumes nothing.
-use Prim.Native.Nat.{ℕ, _+_, _≤_, _<_}
-use mathlib.Core.Bool.{Bool, true, false, cond, _&&_, true≢false}
-use mathlib.Core.List.{List, [], _∷_}
+use Prim.Native.Nat.{ℕ, _≤_}
+use mathlib.Core.Bool.{true, false, true≢false}
+use mathlib.Core.List.{[], _∷_}
 use mathlib.Core.Logic.{_≢_}
-use mathlib.Core.Path.{_≡_, refl, sym, ap, _∙_}
+use mathlib.Core.Path.{_≡_, refl, sym, _∙_}
 use native.Mathlib.Omega.{arith}
 use native.Mathlib.Nat.{pos-of-ne-zero}
 use lib.Dec.{eqb}
-use lib.ListN.{length}
-use borrow.Author.Tests.{eqb-true, eqb-false}
+use borrow.Author.Tests.{eqb-false}
 use Rattle.definitions.proofs.Freelist.{root-within}
 use Rattle.definitions.proofs.Tests.{by-test}
 use Rattle.definitions.specs.Arena.{Arena, capacity, capacityLimit, stackLength, root, current}
@@ -39,9 +38,9 @@ use Rattle.definitions.specs.Insert.{
 }
 use Rattle.definitions.specs.Reply.{Reply, reply, refusal}
 use Rattle.well_formed.proofs.WellFormed.{shape-if-well-formed}
-use Rattle.base_insertion.specs.Insertion.{Roomy, Countable, Insertable, slotFor}
+use Rattle.base_insertion.specs.Insertion.{Roomy, Insertable, slotFor}
 use Rattle.chains.proofs.Links.{well-formed-linked}
-use Rattle.kept.proofs.PutIn.{Gap, u-within, v-within, fits-if-placed, gap-of}
+use Rattle.kept.proofs.PutIn.{u-within, v-within, fits-if-placed, gap-of}
 
 -- the root and the slot after the stack fit a slot
 pub roomy : {a : Arena} → WellFormed capacityLimit a → Roomy (a .header) (capacity a)

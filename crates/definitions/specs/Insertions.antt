@@ -2,8 +2,7 @@
 -- slot, and the order of the refusals (REFERENCE, Insert).
 use Prim.Native.Nat.{ℕ}
 use mathlib.Core.Path.{_≡_, refl}
-use mathlib.Core.Bool.{Bool, true, false}
-use mathlib.Core.List.{List, [], _∷_, _++_, map}
+use mathlib.Core.List.{List, [], _∷_, map}
 use Rattle.definitions.specs.Columns.{at, put, firstOr, lastOr, slotsFrom, keep, written}
 use Rattle.definitions.specs.Arena.{Arena, arena, allocated, linkSlots, freeSlots}
 use Rattle.definitions.specs.Check.{misshapen, freelistWalk, namesBack, neighboursFine, allFine, countsOf, verdict}

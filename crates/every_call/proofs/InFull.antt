@@ -21,7 +21,7 @@ use Rattle.definitions.specs.Compress.{compressGeneration, relocate, compressWi
 use Rattle.definitions.specs.Calls.{Call, Made, Check, WalkStart, WalkStep, Insert, Drain, Run, CompressWith, CompressCanonical, accepted, replyTo, arenaAfter, Answers}
 use Rattle.definitions.proofs.Tests.{by-test, not-eq}
 use Rattle.statements.specs.Chains.{IsOpen, IsClosed, Chain, Alike, Listing, OnOneChain, Renaming, pieces, replaced, Paired}
-use Rattle.statements.specs.Demand3.{Agree, Further, made, compress, OfOne, Unmoved, Demand3}
+use Rattle.statements.specs.Demand3.{Agree, Further, made, OfOne, Unmoved, Demand3}
 use Rattle.statements.specs.WalkOrder.{Walks}
 use Rattle.statements.specs.Answers.{answers}
 use Rattle.statements.specs.DrainsChain.{DrainsChain}

@@ -13,7 +13,7 @@ use borrow.Author.Tests.{eq-eqb, eqb-true, eqb-false, ne-eqb}
 use Rattle.definitions.specs.Columns.{at}
 use Rattle.definitions.specs.Arena.{Arena, arena, capacity, linkCount, current}
 use Rattle.definitions.specs.Check.{verdict}
-use Rattle.definitions.specs.Reply.{Reply, reply, refusal}
+use Rattle.definitions.specs.Reply.{Reply, reply}
 use Rattle.definitions.specs.Read.{Pointer}
 use Rattle.definitions.specs.Insert.{InsertKind, Place, nowhere, between, placeOf, newSlot, isFull, insertAt, insert, Coded, kind, unknown, kindOf, insertCoded}
 use Rattle.definitions.specs.Run.{Command, apply}

@@ -13,7 +13,7 @@ use Rattle.definitions.specs.Check.{verdict}
 use Rattle.definitions.specs.Reply.{Reply, reply}
 use Rattle.definitions.specs.Edit.{connect, breakPrev, breakNext, exchangeNext, doneNumber}
 use Rattle.definitions.specs.Remove.{remove}
-use Rattle.definitions.specs.Insert.{Place, nowhere, between, placeOf, newSlot, isFull, insertAt, insert, Coded, kind, unknown, kindOf, insertCoded}
+use Rattle.definitions.specs.Insert.{Place, nowhere, between, placeOf, newSlot, isFull, insertAt, insert, Coded, kind, unknown, insertCoded}
 use Rattle.definitions.specs.Run.{Command, commandWords, commandsOf, apply, applied, answersOf, run}
 use Rattle.definitions.specs.Calls.{Run, accepted, replyTo}
 use Rattle.statements.specs.Demand3.{Accepted}

@@ -1,21 +1,17 @@
 -- Links that a kind names, in the code's columns, and the place that each kind names. Assumes nothing.
-use Prim.Native.Nat.{ℕ, _≤_, _<_}
-use mathlib.Core.Bool.{Bool, true, false, cond, not, _&&_, true≢false}
-use mathlib.Core.List.{List}
-use mathlib.Core.Path.{_≡_, refl, sym, ap, _∙_}
+use Prim.Native.Nat.{ℕ}
+use mathlib.Core.Bool.{Bool, _&&_}
+use mathlib.Core.Path.{_≡_, refl, sym, _∙_}
 use native.Mathlib.Omega.{arith}
 use lib.Dec.{eqb}
-use lib.ListN.{length}
-use borrow.Author.Tests.{le-leb, not-true}
-use Rattle.definitions.proofs.Pointers.{fresh-link}
+use Rattle.definitions.proofs.Pointers.{there-link}
 use Rattle.definitions.proofs.Shaped.{Shaped}
-use Rattle.definitions.proofs.Columns.{at-zero}
-use Rattle.definitions.proofs.Slots.{allocated-free, allocated-some, allocated-within}
-use Rattle.definitions.proofs.Tests.{by-test, both-first, both-second}
-use Rattle.definitions.specs.Arena.{Arena, stackLength, allocated, isLink}
+use Rattle.definitions.proofs.Slots.{allocated-some, allocated-within}
+use Rattle.definitions.proofs.Tests.{both-first, both-second}
+use Rattle.definitions.specs.Arena.{Arena, stackLength}
 use Rattle.definitions.specs.Columns.{at}
 use Rattle.definitions.specs.Read.{stale}
-use Rattle.definitions.specs.Insert.{Named, byPointer, bySlot, slotOf, isThere, ChainEnd, ChainStart, NextTo, PrevTo, AtInterlink, Bridge, Place, nowhere, placeIf, placeOf}
+use Rattle.definitions.specs.Insert.{Named, byPointer, bySlot, slotOf, isThere, ChainEnd, ChainStart, NextTo, PrevTo, AtInterlink, Bridge, Place, placeIf, placeOf}
 use Rattle.insert_places.specs.Places.{thereIn, Standing}
 
 -- what is asked of an arena's generation column and stack length is asked of the arena
@@ -23,11 +19,6 @@ pub there-of : (a : Arena) (p : Named) → thereIn (a .generation) (stackLength 
 unfolding thereIn isThere stale
 there-of a (byPointer p) = refl
 there-of a (bySlot s) = refl
-
-there-link : (a : Arena) (p : Named) → isThere a p ≡ true → isLink a (slotOf p) ≡ true
-unfolding isThere slotOf
-there-link a (byPointer p) e = fresh-link a p (not-true _ e)
-there-link a (bySlot s) e = e
 
 -- a link that is there stands in both link columns
 module _ (limit : ℕ) (a : Arena) (ok : Shaped limit a) (p : Named) (r : Bool) (e : r ≡ thereIn (a .generation) (stackLength a) p) where

@@ -1,20 +1,20 @@
 -- Laws of chains that insertion needs: two arenas that agree on a chain's links, no link comes twice, a list by its last, and a closed chain that
 -- starts elsewhere; and the chain of a link, of a last link, of a first link. Assumes nothing.
-use Prim.Native.Nat.{ℕ, _≤_}
+use Prim.Native.Nat.{ℕ}
 use mathlib.Core.Path.{_≡_, refl, sym, ap, _∙_}
-use mathlib.Core.Logic.{_⊎_, inl, inr}
+use mathlib.Core.Logic.{inl, inr}
 use mathlib.Core.List.{List, [], _∷_, _++_}
 use native.Mathlib.Omega.{arith}
-use Rattle.definitions.specs.Columns.{at, count, firstOr, lastOr, Linked}
+use Rattle.definitions.specs.Columns.{at, firstOr, lastOr, Linked}
 use Rattle.definitions.specs.Arena.{Arena}
 use Rattle.statements.specs.Chains.{Kind, opened, closed, IsOpen, IsClosed, IsChain}
-use Rattle.definitions.proofs.Slots.{count-append, count-here}
-use Rattle.definitions.proofs.Count.{In, Once, in-here, in-there, in-left, in-right, in-split, in-append, in-cases, not-in-nil}
-use Rattle.definitions.proofs.Linked.{first-append, in-first, in-last, linked-join, linked-split, linked-last, linked-agree}
+use Rattle.definitions.proofs.Slots.{count-append}
+use Rattle.definitions.proofs.Count.{In, Once, in-here, in-there, in-left, in-right, in-split, in-cases}
+use Rattle.definitions.proofs.Linked.{first-append, in-first, in-last, linked-split, linked-last, linked-agree}
 use Rattle.chains.proofs.Runs.{linked-cons, linked-first}
-use Rattle.chains.proofs.Links.{Link, AllLinks, DoublyLinked, link-nonzero, prev-of-next}
+use Rattle.chains.proofs.Links.{Link, DoublyLinked, link-nonzero, prev-of-next}
 use Rattle.chains.proofs.OneChain.{chain-links, chain-some, closed-next, closed-prev, one-chain, like-count}
-use Rattle.chains.proofs.Find.{chainFrom, ChainOf, chain-of}
+use Rattle.chains.proofs.Find.{chainFrom, chain-of}
 
 -- a list by its last
 pub by-last : (x : ℕ) (xs : List ℕ) → (w : List ℕ) × (x ∷ xs ≡ w ++ lastOr x xs ∷ [])

@@ -1,13 +1,13 @@
--- An empty arena passes the check, whatever words stand past its stack: where 'grown from empty' begins. Assumes nothing.
+-- An empty arena passes the check, whatever words its columns hold. Assumes nothing.
 use Prim.Native.Nat.{ℕ, _≤_}
 use mathlib.Core.Path.{_≡_, refl}
 use mathlib.Core.Bool.{true}
 use mathlib.Core.List.{List, [], _∷_}
 use native.Mathlib.Omega.{arith}
 use lib.ListN.{length}
-use Rattle.definitions.specs.Columns.{at, count, firstOr, lastOr, slotsFrom, keep, Linked}
+use Rattle.definitions.specs.Columns.{firstOr, slotsFrom, keep, Linked}
 use Rattle.definitions.specs.Arena.{Arena, arena, allocated, linkSlots}
-use Rattle.definitions.specs.Check.{WellFormed, Neighbour, verdict}
+use Rattle.definitions.specs.Check.{WellFormed, verdict}
 use Rattle.definitions.proofs.Slots.{allocated-some, allocated-within}
 use Rattle.definitions.proofs.Count.{not-in-nil}
 use Rattle.well_formed.proofs.WellFormed.{passes-if-well-formed}

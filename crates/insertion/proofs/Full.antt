@@ -1,8 +1,8 @@
 -- 18 comes exactly where the kind has a place and every slot of the capacity is a link. Assumes nothing.
-use Prim.Native.Nat.{ℕ, zero, suc, _+_, _≤_}
-use mathlib.Core.Path.{_≡_, refl, sym, ap, _∙_}
+use Prim.Native.Nat.{ℕ}
+use mathlib.Core.Path.{_≡_, refl, sym, _∙_}
 use mathlib.Core.Logic.{_↔_}
-use mathlib.Core.Bool.{Bool, true, false, cond, _&&_, true≢false}
+use mathlib.Core.Bool.{true, false, true≢false}
 use mathlib.Core.List.{List, [], _∷_}
 use native.Mathlib.Omega.{arith}
 use lib.ListN.{length}
@@ -11,7 +11,6 @@ use borrow.Author.Tests.{eqb-true, eq-eqb}
 use Rattle.definitions.specs.Columns.{firstOr}
 use Rattle.definitions.specs.Arena.{Arena, capacity, stackLength, linkCount, root}
 use Rattle.definitions.specs.Check.{WellFormed, Freelist, verdict}
-use Rattle.definitions.specs.Reply.{Reply}
 use Rattle.definitions.proofs.Tests.{by-test, both, both-first, both-second}
 use Rattle.definitions.proofs.Slots.{links-and-free}
 use Rattle.definitions.proofs.Count.{in-here}
@@ -51,7 +50,7 @@ module _ (limit : ℕ) (a : Arena) (ok : WellFormed limit a) where
       (λ e. rw e (λ h. (λ q. (let z : _≡_ {A = ℕ} 0 1 = cc in omega arith), full-if e), λ h. refl))
       (λ e. rw e (λ h. absurd (omega arith), λ h. absurd (true≢false (sym (if-full (h .1)) ∙ e))))
 
--- 'then 18 exactly if the stack fills the capacity and no slot is free', which is: exactly where link count = capacity
+-- 18 comes exactly where the kind has a place and as many slots are links as the columns have
 pub full-exactly : (limit : ℕ) (a : Arena) → verdict limit a ≡ 0 → (k : InsertKind) (x : ℕ) (l : List ℕ)
     → (insert a k x l .number ≡ 18) ↔ ((placeOf a (newSlot a) k ≡ nowhere → ⊥) × (linkCount a ≡ capacity a))
 unfolding insert

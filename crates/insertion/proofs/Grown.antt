@@ -1,8 +1,8 @@
 -- What putting a link t between u and v does to chains, whatever the kind: chains that hold neither stay and there are no others without t; the
 -- chain of u gets t behind u, the chain of v gets it before v, two chains are joined around it, one is closed by it, or it is alone. Assumes nothing.
-use Prim.Native.Nat.{ℕ, _≤_}
+use Prim.Native.Nat.{ℕ}
 use mathlib.Core.Path.{_≡_, refl, sym, ap, subst, _∙_}
-use mathlib.Core.Logic.{_⊎_, inl, inr}
+use mathlib.Core.Logic.{inl, inr}
 use mathlib.Core.Bool.{true≢false}
 use mathlib.Core.List.{List, [], _∷_, _++_, append-assoc}
 use native.Mathlib.Omega.{arith}
@@ -10,12 +10,11 @@ use Rattle.definitions.specs.Columns.{at, count, firstOr, lastOr, Linked}
 use Rattle.definitions.specs.Arena.{Arena, isLink}
 use Rattle.statements.specs.Chains.{Kind, opened, closed, IsOpen, IsClosed, IsChain, Like}
 use Rattle.definitions.proofs.Slots.{count-append, count-here}
-use Rattle.definitions.proofs.Count.{In, Once, in-here, in-there, in-left, in-right, in-cases, in-append, once-cons, once-one, none-of, not-in-nil, in-only}
+use Rattle.definitions.proofs.Count.{In, Once, in-here, in-there, in-left, in-right, in-cases, in-append, once-cons, once-one, not-in-nil}
 use Rattle.definitions.proofs.Linked.{first-append, in-first, in-last, linked-join, linked-split, linked-last, linked-agree}
 use Rattle.chains.proofs.Runs.{linked-nil, linked-cons, linked-one, linked-first, linked-rest}
 use Rattle.chains.proofs.Links.{Link, AllLinks, DoublyLinked, link-nonzero, prev-of-next, links-one}
-use Rattle.chains.proofs.OneChain.{Run, chain-run, chain-links, run-next, run-prev, one-chain}
-use Rattle.kept.proofs.PutInColumn.{Column}
+use Rattle.chains.proofs.OneChain.{chain-run, chain-links, run-next, run-prev, one-chain}
 use Rattle.kept.proofs.PutIn.{PutIn}
 use Rattle.insertion.proofs.Chains.{by-last, agree-chain, turned, chain-once}
 

@@ -1,22 +1,20 @@
 -- After an accepted insertion the chains are the old ones but for those that the kind names. Assumes nothing.
 use Prim.Native.Nat.{ℕ, _≤_}
 use mathlib.Core.Path.{_≡_, refl, sym, ap, _∙_}
-use mathlib.Core.Bool.{Bool, true, false, cond, true≢false}
+use mathlib.Core.Bool.{true, false, true≢false}
 use mathlib.Core.List.{List, [], _∷_}
 use native.Mathlib.Omega.{arith}
-use lib.ListN.{length}
-use Rattle.definitions.specs.Columns.{at, put}
-use Rattle.definitions.specs.Arena.{Arena, capacity, stackLength, current, isLink}
+use Rattle.definitions.specs.Columns.{at}
+use Rattle.definitions.specs.Arena.{Arena, capacity, current, isLink}
 use Rattle.definitions.specs.Check.{WellFormed, verdict}
-use Rattle.definitions.specs.Reply.{Reply}
 use Rattle.definitions.proofs.Tests.{by-test}
 use Rattle.definitions.proofs.Columns.{length-put, at-put-same, at-put-other}
 use Rattle.well_formed.proofs.WellFormed.{well-formed-if-passes}
-use Rattle.chains.proofs.Links.{Link, DoublyLinked, link-nonzero, link-within, well-formed-linked}
+use Rattle.chains.proofs.Links.{Link, link-nonzero, link-within, well-formed-linked}
 use Rattle.definitions.specs.Insert.{InsertKind, Place, nowhere, between, placeOf, newSlot, isFull, inserted, insertAt, insert}
 use Rattle.statements.specs.InsertPlaces.{InsertPlaces}
 use Rattle.kept.proofs.PutIn.{PutIn, Fits, fits-if-placed, gap-of}
-use Rattle.kept.proofs.Insertion.{Inserted, inserted-keeps}
+use Rattle.kept.proofs.Insertion.{inserted-keeps}
 use Rattle.insertion.proofs.Places.{makes-one, made-is, others-stay, all-chains}
 
 module _ (limit : ℕ) (a : Arena) (ok : WellFormed limit a) (k : InsertKind) (x : ℕ) where

@@ -1,27 +1,23 @@
 -- Where an insertion puts the new link, kind by kind, in words of chains. Each kind is a pair of slots and one of the ways in which a chain grows
 -- around a link between them. Assumes nothing.
 use Prim.Native.Nat.{ℕ, _≤_}
-use mathlib.Core.Path.{_≡_, refl, sym, ap, subst, _∙_}
+use mathlib.Core.Path.{_≡_, refl, sym, ap, _∙_}
 use mathlib.Core.Logic.{_⊎_, inl, inr}
-use mathlib.Core.Bool.{Bool, true, false, cond, _&&_, true≢false}
+use mathlib.Core.Bool.{true, false, true≢false}
 use mathlib.Core.List.{List, [], _∷_, _++_}
 use native.Mathlib.Omega.{arith}
 use native.Mathlib.Decide.{decLe}
-use lib.Dec.{eqb}
-use borrow.Author.Tests.{eqb-true}
-use Rattle.definitions.specs.Columns.{at, count, firstOr, lastOr, Linked}
-use Rattle.definitions.specs.Arena.{Arena, isLink, current}
-use Rattle.statements.specs.Chains.{Kind, opened, closed, IsOpen, IsClosed, Chain, IsChain, Like, Alike}
-use Rattle.definitions.specs.Check.{WellFormed, verdict}
-use Rattle.definitions.proofs.Tests.{by-test, both-first, both-second}
-use Rattle.definitions.proofs.Count.{In, in-here, in-there, in-left, in-right, none-of}
-use Rattle.definitions.proofs.Linked.{first-append, last-append, linked-split}
+use Rattle.definitions.specs.Columns.{at, count, firstOr, lastOr}
+use Rattle.definitions.specs.Arena.{Arena, isLink}
+use Rattle.statements.specs.Chains.{Kind, opened, closed, IsOpen, Chain, IsChain, Like, Alike}
+use Rattle.definitions.proofs.Count.{In, in-here, in-there, in-right, none-of}
+use Rattle.definitions.proofs.Linked.{last-append, linked-split}
 use Rattle.chains.proofs.Runs.{linked-first}
-use Rattle.chains.proofs.Links.{Link, AllLinks, DoublyLinked, link-nonzero, well-formed-linked}
+use Rattle.chains.proofs.Links.{Link, DoublyLinked, link-nonzero}
 use Rattle.chains.proofs.OneChain.{chain-run, chain-links, run-next, run-prev, one-chain}
-use Rattle.definitions.specs.Insert.{Named, slotOf, isThere, InsertKind, Disconnected, SingleLinkCyclic, ChainEnd, ChainStart, NextTo, PrevTo, AtInterlink, Bridge, Place, nowhere, between, placeIf, placeOf}
+use Rattle.definitions.specs.Insert.{Named, slotOf, InsertKind, Disconnected, SingleLinkCyclic, ChainEnd, ChainStart, NextTo, PrevTo, AtInterlink, Bridge}
 use Rattle.statements.specs.InsertPlaces.{chain, Makes, Apart}
-use Rattle.kept.proofs.PutIn.{PutIn, Fits, fits-if-placed, gap-of}
+use Rattle.kept.proofs.PutIn.{PutIn, Fits}
 use Rattle.insertion.proofs.Chains.{on-chain, end-chain, start-chain}
 use Rattle.insertion.proofs.Grown.{stays-chain, was-chain, behind, alone, alone-closed, in-front, before, joins, closes}
 

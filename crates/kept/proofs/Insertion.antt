@@ -1,27 +1,25 @@
 -- Insertion keeps an arena well formed, and puts the link where it says. Both sides of the interlinks are the law of one column; one link more; the
 -- freelist loses its first slot, or stays where the stack grows. Assumes nothing.
-use Prim.Native.Nat.{ℕ, suc, _+_, _≤_, _<_}
+use Prim.Native.Nat.{ℕ, _+_, _≤_, _<_}
 use mathlib.Core.Path.{_≡_, refl, sym, ap, _∙_}
 use mathlib.Core.Logic.{_⊎_, inl, inr}
-use mathlib.Core.Bool.{Bool, true, false, cond, _&&_, true≢false}
+use mathlib.Core.Bool.{true, false, cond, true≢false}
 use mathlib.Core.List.{List, [], _∷_}
 use native.Mathlib.Omega.{arith}
 use native.Mathlib.Decide.{ℕ-discrete}
 use lib.ListN.{length}
 use lib.Dec.{eqb}
-use borrow.Author.Tests.{eqb-true, eqb-false, eq-eqb, ne-eqb}
-use Rattle.definitions.specs.Columns.{at, put, count, firstOr, lastOr, Linked}
-use Rattle.definitions.specs.Arena.{Arena, arena, capacity, allocated, isLink, withHeader}
+use borrow.Author.Tests.{eqb-false, eq-eqb, ne-eqb}
+use Rattle.definitions.specs.Columns.{at, put, firstOr, lastOr, Linked}
+use Rattle.definitions.specs.Arena.{Arena, arena, allocated, withHeader}
 use Rattle.definitions.specs.Check.{WellFormed, Freelist}
-use Rattle.definitions.specs.Reply.{Reply}
-use Rattle.definitions.proofs.Tests.{by-test, not-second}
+use Rattle.definitions.proofs.Tests.{by-test}
 use Rattle.definitions.proofs.Columns.{length-put, at-put-same, at-put-other}
 use Rattle.definitions.proofs.Slots.{allocated-yes, allocated-past, allocated-free, allocated-some, allocated-within, allocated-live, count-here, count-there}
-use Rattle.definitions.proofs.Count.{In, in-here, in-there, not-in-nil}
+use Rattle.definitions.proofs.Count.{In, in-here, in-there}
 use Rattle.definitions.proofs.Linked.{linked-agree}
 use Rattle.definitions.proofs.LinkCount.{one-link-fewer}
 use Rattle.chains.proofs.Links.{Link, well-formed-linked}
-use Rattle.kept.proofs.Neighbours.{Side}
 use Rattle.kept.proofs.Header.{four-words}
 use Rattle.definitions.specs.Insert.{InsertKind, Place, nowhere, between, placeOf, newSlot, isFull, rootAfter, headerAfter, inserted, insertAt, insert, Coded, kind, unknown, insertCoded}
 use Rattle.kept.proofs.PutInColumn.{Column, column, put-in}

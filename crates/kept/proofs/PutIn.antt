@@ -1,20 +1,19 @@
 -- Where a link may go, and what it does there: the one fact that all kinds share. Assumes nothing.
 use Prim.Native.Nat.{ℕ, _≤_}
-use mathlib.Core.Path.{_≡_, refl, sym, ap, _∙_}
+use mathlib.Core.Path.{_≡_, refl, sym}
 use mathlib.Core.Logic.{_⊎_, inl, inr}
-use mathlib.Core.Bool.{Bool, true, false, cond, _&&_, not, true≢false}
+use mathlib.Core.Bool.{Bool, true, false, _&&_}
 use native.Mathlib.Omega.{arith}
 use native.Mathlib.Decide.{ℕ-discrete}
 use lib.Dec.{eqb}
-use borrow.Author.Tests.{eqb-true, not-true}
+use borrow.Author.Tests.{eqb-true}
 use Rattle.definitions.specs.Columns.{at}
 use Rattle.definitions.specs.Arena.{Arena, stackLength, isLink}
-use Rattle.definitions.specs.Read.{stale}
-use Rattle.definitions.proofs.Tests.{by-test, both-first, both-second}
+use Rattle.definitions.proofs.Tests.{both-first, both-second}
 use Rattle.definitions.proofs.Columns.{at-zero}
-use Rattle.definitions.proofs.Pointers.{fresh-link}
+use Rattle.definitions.proofs.Pointers.{there-link}
 use Rattle.chains.proofs.Links.{Link, DoublyLinked, link-within}
-use Rattle.definitions.specs.Insert.{Named, byPointer, bySlot, slotOf, isThere, InsertKind, Disconnected, SingleLinkCyclic, ChainEnd, ChainStart, NextTo, PrevTo, AtInterlink, Bridge, Place, nowhere, between, placeIf, placeOf}
+use Rattle.definitions.specs.Insert.{slotOf, isThere, InsertKind, Disconnected, SingleLinkCyclic, ChainEnd, ChainStart, NextTo, PrevTo, AtInterlink, Bridge, between, placeIf, placeOf}
 use Rattle.kept.proofs.PutInColumn.{Column}
 
 -- u and v are neighbours; or u, if there is one, has no next, and v, if there is one, no prev; or both are the new link t
@@ -47,11 +46,6 @@ pub record PutIn (a b : Arena) (t u v : ℕ) : Type 0 where
   pub was : (x : ℕ) → Link b x → (x ≡ t → ⊥) → Link a x
   pub prev : Column (a .prev) (b .prev) t u v
   pub next : Column (a .next) (b .next) t v u
-
-pub there-link : (a : Arena) (p : Named) → isThere a p ≡ true → Link a (slotOf p)
-unfolding isThere slotOf
-there-link a (byPointer p) e = fresh-link a p (not-true _ e)
-there-link a (bySlot s) e = e
 
 placed : (fits : Bool) (u v s t : ℕ) → placeIf fits u v ≡ between s t → (fits ≡ true) × (u ≡ s) × (v ≡ t)
 unfolding placeIf

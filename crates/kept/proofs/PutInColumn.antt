@@ -1,7 +1,7 @@
 -- One side of the interlinks when a link t is put between u and v: for a column xs (prev or next) and the column ys that names back. Each law is
 -- used twice, once for either side, with the columns and u and v in each other's place. Assumes nothing.
 use Prim.Native.Nat.{ℕ, _≤_}
-use mathlib.Core.Path.{_≡_, refl, sym, ap, _∙_}
+use mathlib.Core.Path.{_≡_, sym, ap, _∙_}
 use mathlib.Core.Logic.{_⊎_, inl, inr}
 use mathlib.Core.Bool.{Bool, true, false, true≢false}
 use mathlib.Core.List.{List}

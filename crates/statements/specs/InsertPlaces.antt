@@ -1,5 +1,5 @@
 -- What an accepted insertion does to the chains, in words of chains (REFERENCE, Insert).
-use Prim.Native.Nat.{ℕ, _≤_}
+use Prim.Native.Nat.{ℕ}
 use mathlib.Core.Path.{_≡_}
 use mathlib.Core.Logic.{_⊎_}
 use mathlib.Core.Bool.{true, false}

@@ -1,7 +1,5 @@
 -- `chain_insertion::insert_coded` meets its contract: the code's kind, if there is one, is inserted. Assumes nothing.
-use mathlib.Core.Path.{refl, sym, _∙_}
 use borrow.Author.Needs.{needs}
-use Rattle.definitions.specs.Insert.{insertCoded}
 use Rattle.chain_insertion.proofs.Insertions.{no-kind, its-kind}
 use Rattle.chain_insertion.proofs.insert_coded.Statement.{statement}
 use Rattle.chain_insertion.proofs.insert_coded.Tie as tie

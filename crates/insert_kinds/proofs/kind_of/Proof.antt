@@ -1,6 +1,5 @@
 -- `insert_kinds::kind_of` meets its contract: each code is tried as the definition tries it. Assumes nothing.
 use mathlib.Core.Path.{refl}
-use native.Mathlib.Omega.{arith}
 use borrow.Author.Tests.{ne-eqb}
 use Rattle.definitions.specs.Insert.{kindOf}
 use Rattle.insert_kinds.proofs.kind_of.Statement.{statement}

@@ -1,7 +1,6 @@
 -- `insert_places::contains_inx` meets its contract: its tests are those of a link. Assumes nothing.
 use mathlib.Core.Path.{sym}
 use borrow.Author.Needs.{needs}
-use Rattle.definitions.proofs.Tests.{tests}
 use Rattle.definitions.proofs.Slots.{allocated-past}
 use Rattle.definitions.specs.Insert.{isThere}
 use Rattle.insert_places.proofs.Parts.{zero-no-link, within-link}

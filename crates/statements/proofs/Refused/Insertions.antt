@@ -1,12 +1,12 @@
 -- What an insertion promises: for each field of `InsertPlaces` a result that it alone refuses, or at least it.
 use Prim.Native.Nat.{ℕ}
-use mathlib.Core.Path.{_≡_, refl, sym, ap, _∙_}
+use mathlib.Core.Path.{_≡_, refl, sym, ap}
 use mathlib.Core.Logic.{_⊎_, inl, inr}
 use mathlib.Core.Bool.{true, false, true≢false}
 use mathlib.Core.List.{List, [], _∷_}
 use native.Mathlib.Omega.{arith}
 use lib.ListN.{getD}
-use Rattle.definitions.specs.Columns.{at, count, firstOr, Linked}
+use Rattle.definitions.specs.Columns.{at, firstOr, Linked}
 use Rattle.definitions.specs.Arena.{Arena, arena, allocated}
 use Rattle.definitions.specs.Insert.{bySlot, slotOf, Disconnected, ChainStart}
 use Rattle.definitions.proofs.Count.{in-here, in-only}
