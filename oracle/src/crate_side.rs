@@ -56,7 +56,7 @@ fn held(p: Ptr) -> Option<P0> {
     Some(P0::_from_raw(NonZeroU16::new(p.slot)?, NonZeroU32::new(p.generation)?))
 }
 
-/// The crate's name for a kind of insertion with its pointers, if its types can hold them; if they cannot, one is stale.
+/// The crate's name for a kind of insertion with its pointers, if there is such a kind and its types can hold them.
 fn insert_kind(kind: u32, p: Ptr, q: Ptr) -> Option<LinkInsertKind<P0>> {
     let inx = |p: Ptr| NonZeroU16::new(p.slot);
     Some(match kind {
@@ -74,7 +74,7 @@ fn insert_kind(kind: u32, p: Ptr, q: Ptr) -> Option<LinkInsertKind<P0>> {
         kind::AT_INTERLINK_INX => LinkInsertKind::AtInterlinkInx { next_to: inx(p)?, prev_to: inx(q)? },
         kind::BRIDGE => LinkInsertKind::Bridge { end: held(p)?, start: held(q)? },
         kind::BRIDGE_INX => LinkInsertKind::BridgeInx { end: inx(p)?, start: inx(q)? },
-        _ => unreachable!("the kinds are those of the list"),
+        _ => return None,
     })
 }
 
@@ -175,7 +175,7 @@ impl CrateArena {
     }
 
     /// Makes one call on an arena that passes the check, or none where the crate has no such call: 14, 15 and 16, and
-    /// states of a walk that its types cannot hold.
+    /// states of a walk and pointers of an insertion that its types cannot hold.
     pub fn perform(&mut self, call: &mut Call) -> Option<Reply> {
         self.taken.clear();
         Some(match call {
@@ -208,8 +208,7 @@ impl CrateArena {
             Call::Run(commands, answers) => self.run(commands, answers)?,
             Call::CompressWith(reset, report) => self.compress_with(*reset != 0, report)?,
             Call::CompressCanonical(reset, from) => self.compress_canonical(*reset != 0, from)?,
-            Call::Insert(kind, ..) if !kind::ALL.contains(kind) => return None,
-            Call::Insert(kind, p, q, payload) => self.insert(*kind, *p, *q, *payload),
+            Call::Insert(kind, p, q, payload) => self.insert(*kind, *p, *q, *payload)?,
         })
     }
 
@@ -317,13 +316,11 @@ impl CrateArena {
         agreed(number, both(p, q).and_then(|(p, q)| self.chain.exchange_next(p, q)))
     }
 
-    /// Inserts a link as the crate does where it may not grow, and answers its pointer. A pointer that the crate's types
-    /// cannot hold is stale.
-    fn insert(&mut self, kind: u32, p: Ptr, q: Ptr, payload: u32) -> Reply {
-        let Some(kind) = insert_kind(kind, p, q) else {
-            return Reply::number(17);
-        };
-        match self.chain.insert_within_capacity(kind, payload) {
+    /// Inserts a link as the crate does where it may not grow, and answers its pointer; none where the crate has no such
+    /// kind or its types cannot hold a pointer.
+    fn insert(&mut self, kind: u32, p: Ptr, q: Ptr, payload: u32) -> Option<Reply> {
+        let kind = insert_kind(kind, p, q)?;
+        Some(match self.chain.insert_within_capacity(kind, payload) {
             Ok(p) => {
                 self.taken.push(p.inx().get());
                 Reply::new(0, &[p.inx().get().into(), p.generation().get()])
@@ -331,7 +328,7 @@ impl CrateArena {
             Err(ChainInsertionError::FailedLinkRequirement) => Reply::number(17),
             Err(ChainInsertionError::NotWithinCapacity) => Reply::number(18),
             Err(error) => panic!("the crate's insertion says {error:?}"),
-        }
+        })
     }
 
     /// Removes a link and answers it as it was.
@@ -396,7 +393,10 @@ impl CrateArena {
                 3 => self.break_next(p),
                 4 => self.exchange_next(p, q),
                 5 => self.remove(p).number,
-                code if kind::ALL.contains(&code) => self.insert(code, p, q, command[5]).number,
+                // A pointer that cannot be held is stale.
+                code if kind::ALL.contains(&code) => {
+                    self.insert(code, p, q, command[5]).map_or(17, |reply| reply.number)
+                }
                 _ => 16,
             };
         }
@@ -525,8 +525,7 @@ impl Edit {
                 3 => Self::BreakNext(held(p)?),
                 4 => Self::ExchangeNext(held(p)?, held(q)?),
                 5 => Self::Remove(held(p)?),
-                code if kind::ALL.contains(&code) => Self::Insert(insert_kind(code, p, q)?, payload),
-                _ => return None,
+                _ => Self::Insert(insert_kind(code, p, q)?, payload),
             })
         };
         commands.as_chunks().0.iter().map(edit).collect()
