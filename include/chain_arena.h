@@ -50,7 +50,7 @@
  *                                  insert, run; in the answers of run
  *      17  LINK_REQUIREMENT      what a kind of insertion asks does not hold, or one of its pointers is stale
  *                                  insert; in the answers of run
- *      18  NOT_WITHIN_CAPACITY   there is no room for a link: the stack fills the capacity, and no slot is free
+ *      18  NOT_WITHIN_CAPACITY   there is no room for a link: every slot of the columns holds one
  *                                  insert; in the answers of run
  *     100  OVERFLOWED            nothing is wrong: done, and the current generation overflowed
  *                                  remove, inc_generation, compress_with, compress_canonical; in the answers of run
@@ -361,7 +361,9 @@ chain_arena_plain_result chain_arena_canonicalize_freelist(
  *   5         remove the link at the first
  *   6 to 19   insert a link with the payload; the code is the kind, CHAIN_ARENA_INSERT_.., the first is p, the second q
  * Words that an edit does not need are ignored. The answer word of a command is the number that the edit's own call would
- * give, or 16 for an unknown code. After a command that is refused the next one is applied all the same. Of the whole run
+ * give, or 16 for an unknown code. After a command that is refused the next one is applied all the same. A run does not
+ * answer where a link was inserted: in the slot that was the root when its turn came, or where there was no root in the slot
+ * after the stack, with the current generation; so later commands can name it. Of the whole run
  * 16: the number of command words is not divisible by six; 14: there are more commands than answer words. (Run) */
 chain_arena_plain_result chain_arena_run(
     uint16_t *prev, size_t prev_len,

@@ -1,8 +1,8 @@
 //! Which of several names was meant by a word that is none of them.
 
-/// The name that is written most like a word; none if half of the letters are other ones.
+/// The name that is written most like a word, capitals aside; none if half of the letters are other ones.
 pub fn nearest<'n>(word: &str, names: impl Iterator<Item = &'n str>) -> Option<&'n str> {
-    let word: Vec<char> = word.chars().collect();
+    let word: Vec<char> = word.to_lowercase().chars().collect();
     let tried = names.map(|name| (changes(&word, name), name));
     let near = tried.filter(|(changes, name)| 2 * changes <= word.len().max(name.len()));
     near.min_by_key(|(changes, _)| *changes).map(|(_, name)| name)

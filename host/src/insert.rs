@@ -54,7 +54,7 @@ use crate::{Ptr, Slot};
 /// assert_eq!((prev, next), ([4, 1, 3, 2], [2, 4, 3, 1])); // a -> c -> the fourth -> (a), and d
 /// # Ok::<(), chain_arena::Refusal>(())
 /// ```
-#[derive(Clone, Copy, Debug, PartialEq, Eq)]
+#[derive(Clone, Copy, Debug, PartialEq, Eq, Hash)]
 pub enum LinkInsertKind {
     /// Alone, with no neighbour.
     Disconnected,

@@ -118,7 +118,7 @@ kinds! {
     15 GenerationTooLow "generation 0 or 1 was to be set"
     16 Command "the command words are no whole commands, or a code or a kind of insertion is unknown"
     17 LinkRequirement "what a kind of insertion asks does not hold, or one of its pointers is stale"
-    18 NotWithinCapacity "there is no room for a link: the stack fills the capacity, and no slot is free"
+    18 NotWithinCapacity "there is no room for a link: every slot of the columns holds one"
 }
 
 impl fmt::Display for RefusalKind {

@@ -8,7 +8,7 @@ use core::slice;
 use crate::{Done, LinkInsertKind, Ptr, Refusal, Slot};
 
 /// One edit of a run.
-#[derive(Clone, Copy, Debug, PartialEq, Eq)]
+#[derive(Clone, Copy, Debug, PartialEq, Eq, Hash)]
 pub enum Command {
     /// Makes the second link the next of the first.
     Connect(Ptr, Ptr),
@@ -20,8 +20,9 @@ pub enum Command {
     ExchangeNext(Ptr, Ptr),
     /// Takes the link out.
     Remove(Ptr),
-    /// Inserts a link with this payload. The answer does not say where it is: it has the slot and the generation that
-    /// [`ArenaMut::insert`](crate::ArenaMut::insert) would answer at that moment.
+    /// Inserts a link with this payload. The answer does not say where it is, but that is known: its slot is the freelist's
+    /// root when its turn comes, or the slot after the stack where there is no root, and its generation is the current one,
+    /// which removals raise. So later commands of the same run can name it, as in the example of [`Run`].
     Insert(LinkInsertKind, u32),
 }
 
@@ -31,7 +32,7 @@ impl Command {
 
     /// The words of the command: its code, slot and generation of two pointers, a payload. What it does not have is 0.
     #[must_use]
-    pub fn words(self) -> [u32; Self::WORDS] {
+    pub const fn words(self) -> [u32; Self::WORDS] {
         const NONE: Ptr = Ptr { slot: 0, generation: 0 };
         let (code, [p, q], payload) = match self {
             Self::Connect(p, q) => (1, [p, q], 0),
@@ -41,7 +42,7 @@ impl Command {
             Self::Remove(p) => (5, [p, NONE], 0),
             Self::Insert(kind, payload) => (kind.code(), kind.pointers(), payload),
         };
-        [code, p.slot.into(), p.generation, q.slot.into(), q.generation, payload]
+        [code, p.slot as u32, p.generation, q.slot as u32, q.generation, payload]
     }
 
     /// The command whose words these are.
@@ -65,7 +66,7 @@ impl Command {
 /// hold an unknown code, so [`ArenaMut::run`](crate::ArenaMut::run) refuses it only if the arena is broken.
 ///
 /// ```
-/// use chain_arena::{ArenaMut, Command, Ptr, Run};
+/// use chain_arena::{ArenaMut, Command, LinkInsertKind, Ptr, Run};
 ///
 /// // The lone links 1 and 2.
 /// let (mut prev, mut next) = ([0; 2], [0; 2]);
@@ -87,6 +88,14 @@ impl Command {
 ///
 /// let numbers = arena.run(&mut run)?.map(|answer| answer.result.map_or_else(|refusal| refusal.number(), |_| 0));
 /// assert!(numbers.eq([0, 13, 0]));
+///
+/// // Slot 1 is free now, and the generation is 6: that will be the new link's pointer.
+/// let new = Ptr { slot: 1, generation: 6 };
+/// assert_eq!((arena.header[2], arena.header[3]), (1, 6));
+/// run.clear();
+/// run.insert(LinkInsertKind::ChainEnd(q), 30)?.connect(new, q)?;
+/// assert!(arena.run(&mut run)?.all(|answer| answer.result.is_ok()));
+/// assert_eq!(arena.next, [2, 1]); // 1 and 2 are a closed chain
 /// # Ok::<(), Box<dyn core::error::Error>>(())
 /// ```
 #[derive(Debug)]

@@ -116,7 +116,7 @@ fn any_two_fields_exchanged_are_seen() {
     }
 }
 
-#[cfg(feature = "level-three")]
+#[cfg(all(feature = "level-two", feature = "level-three"))]
 #[test]
 fn the_example_of_the_readme_runs() {
     let readme = std::fs::read_to_string(package().join("../README.md")).unwrap();
@@ -124,7 +124,7 @@ fn the_example_of_the_readme_runs() {
     let (example, _) = example.split_once("```").expect("the example's end");
     let source = Path::new(env!("CARGO_TARGET_TMPDIR")).join("readme.c");
     std::fs::write(&source, example).unwrap();
-    assert_eq!(text(Command::new(compiled(&source, "readme")).output().unwrap()), "0: 1 5 3 4 2\n");
+    assert_eq!(text(Command::new(compiled(&source, "readme")).output().unwrap()), "5 0: 1 5 3 4 2\n");
 }
 
 /// Every dialect that the header is for: the compiler, and the option for the dialect.

@@ -168,6 +168,20 @@ fn the_codes_and_word_counts_are_those_of_the_wrapper() {
         pairs.map(|(code, name)| (code.parse().unwrap(), shouted(name))).collect::<Vec<(u32, String)>>()
     });
     assert!(told.eq(codes), "REFERENCE has the kinds in a table");
+    let (_, table) = manual.split_once("| code | edit |").unwrap();
+    let rows: Vec<Vec<&str>> = table
+        .lines()
+        .skip(2)
+        .take_while(|line| line.starts_with('|'))
+        .map(|row| row.split('|').map(str::trim).collect())
+        .collect();
+    let (insertion, edits) = rows.split_last().unwrap();
+    let told = edits.iter().map(|row| (row[1].parse().unwrap(), row[2].replace(' ', "_").to_uppercase()));
+    assert!(
+        told.eq(self::constants("CHAIN_ARENA_COMMAND_").into_iter().filter(|(_, name)| name != "WORDS")),
+        "REFERENCE has the edits of a run in a table"
+    );
+    assert_eq!(insertion[1..3], ["6 to 19", "[insert](#insert), with the code as the kind"]);
     assert_eq!(self::constants("CHAIN_ARENA_HEADER_"), [(Header::WORDS as u32, "WORDS".to_string())]);
     let drained = chain_arena::DrainedLink::WORDS as u32;
     assert_eq!(self::constants("CHAIN_ARENA_DRAIN_"), [(drained, "WORDS".to_string())]);
@@ -181,21 +195,31 @@ fn the_words_of_a_moved_link_are_those_of_the_wrapper() {
 }
 
 /// The numbers from 12 to 18 in the comment that stands above a declaration.
-fn above(source: &str, declaration: &str) -> BTreeSet<u32> {
+fn above(source: &str, declaration: &str) -> Vec<u32> {
     let start = source.find(declaration).unwrap_or_else(|| panic!("{declaration} is not there"));
     let comment = |line: &&str| ["/*", " *", "    ///"].iter().any(|sign| line.starts_with(sign));
-    let text: String = source[..start].trim_end().lines().rev().take_while(comment).collect();
-    text.split(|c: char| !c.is_ascii_digit())
-        .filter_map(|word| word.parse().ok())
-        .filter(|n| (12..=18).contains(n))
-        .collect()
+    let mut lines: Vec<&str> = source[..start].trim_end().lines().rev().take_while(comment).collect();
+    lines.reverse();
+    let numbers = lines.iter().flat_map(|line| line.split(|c: char| !c.is_ascii_digit()));
+    once(numbers.filter_map(|word| word.parse().ok()).filter(|n| (12..=18).contains(n)))
+}
+
+/// The numbers in the order in which each comes first.
+fn once(numbers: impl Iterator<Item = u32>) -> Vec<u32> {
+    let mut found = vec![];
+    for number in numbers {
+        if !found.contains(&number) {
+            found.push(number);
+        }
+    }
+    found
 }
 
 #[test]
 fn each_declaration_tells_the_numbers_of_its_call() {
     let (ffi, header) = (read("host/src/ffi.rs"), read("include/chain_arena.h"));
     for (call, order) in ORDER {
-        let numbers: BTreeSet<u32> = order.iter().copied().collect();
+        let numbers = once(order.iter().copied());
         assert_eq!(above(&ffi, &format!("    pub fn chain_arena_{call}(")), numbers, "{call} in ffi.rs");
         let line = header.lines().find(|line| line.ends_with(&format!(" chain_arena_{call}("))).unwrap();
         assert_eq!(above(&header, line), numbers, "{call} in the C header");

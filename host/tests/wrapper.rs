@@ -287,6 +287,10 @@ mod level_two {
         let link = LinkNoGen { prev: Some(4), next: Some(4), payload: 50 };
         assert_eq!(arena.remove(p(5)), Ok(Removed { link, overflowed: false }));
         assert_eq!(*arena.header, [4, 3, 3, 6]);
+        arena.header[3] = u32::MAX;
+        let link = LinkNoGen { prev: None, next: None, payload: 20 };
+        assert_eq!(arena.remove(p(2)), Ok(Removed { link, overflowed: true }));
+        assert_eq!(arena.header[3], 2);
     }
 
     #[test]
@@ -763,6 +767,11 @@ mod level_two {
         let words = [18, 0xfedc, u32::MAX, 1, 0x8000_0002, 0x7fff_fff3];
         assert_eq!(inserting[12].words(), words);
         assert_eq!(inserting[13].words(), [19, 0xfedc, 0, 1, 0, 0x7fff_fff3]);
+        // what a kind does not have is 0
+        for (command, code) in inserting.iter().zip(6..16) {
+            let first = if code < 8 { [0, 0] } else { [0xfedc, if code % 2 == 0 { u32::MAX } else { 0 }] };
+            assert_eq!(command.words(), [code, first[0], first[1], 0, 0, 0x7fff_fff3]);
+        }
         let mut commands = vec![
             Command::Connect(p, q),
             Command::BreakPrev(p),

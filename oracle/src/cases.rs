@@ -327,7 +327,7 @@ fn slots_and_words(a: &Arena) -> Vec<Ptr> {
 /// second pointer is not looked at with every first.
 pub fn each_insertion(a: &Arena, mut found: impl FnMut(Call)) {
     let pointers = slots_and_words(a);
-    let unknown = [0, 5, 20, kind::CHAIN_END + 65_536, u32::MAX];
+    let unknown = [0, 5, 20, 21, kind::CHAIN_END + 65_536, u32::MAX];
     let kinds: Vec<u32> = kind::ALL.chain(unknown).collect();
     for &kind in &kinds {
         for &p in &pointers {

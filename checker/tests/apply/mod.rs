@@ -405,6 +405,7 @@ fn what_is_wrong_with_a_command_has_its_place() {
     }
     for (bytes, message) in [
         (&b"remove 1:5\nremove \xff:5"[..], "2:8: found the byte 0xff, expected UTF-8 text"),
+        (&b"# \xc3\xa9 \xff"[..], "1:5: found the byte 0xff, expected UTF-8 text"),
         (
             b"\xff\xfer\x00",
             "1:1: found the byte 0xff, expected UTF-8 text; it seems to be UTF-16, save it as UTF-8",

@@ -1,4 +1,4 @@
-// A new link's slot, and its words in all columns (arena/base_arena.rs, and the interlinks of chain/impl_chain_arena_trait.rs).
+// A new link's slot, and its words in all columns (arena/impl_arena_trait.rs, and the interlinks of chain/impl_chain_arena_trait.rs).
 ghost use mathlib.Core.Path.{_≡_};
 ghost use mathlib.Core.Bool.{cond};
 ghost use mathlib.Core.List.{List};

@@ -1,5 +1,6 @@
 pub mod Tests
 pub mod Columns
+pub mod Codes
 pub mod Slots
 pub mod Pointers
 pub mod Count

@@ -87,7 +87,7 @@ placeOf a t (Bridge p q) = placeIf ((isThere a p && isThere a q) && (eqb (at (a 
 unfoldable pub newSlot : Arena → ℕ
 newSlot a = cond (eqb (root a) 0) (stackLength a + 1) (root a)
 
--- there is no root, and the stack fills the capacity
+-- there is no root, and the stack is as long as the columns
 unfoldable pub isFull : Arena → Bool
 isFull a = eqb (root a) 0 && eqb (stackLength a) (capacity a)
 

@@ -20,8 +20,8 @@ use Rattle.definitions.specs.Run.{Command, commandsOf, apply, applied, answersO
 use Rattle.definitions.specs.Compress.{compressGeneration, relocate, compressWith, laidOut, canonicalArena, compressCanonical}
 use Rattle.definitions.specs.Calls.{Call, Made, Check, WalkStart, WalkStep, Insert, Drain, Run, CompressWith, CompressCanonical, accepted, replyTo, arenaAfter, Answers}
 use Rattle.definitions.proofs.Tests.{by-test, not-eq}
-use Rattle.statements.specs.Chains.{IsOpen, IsClosed, Chain, Alike, Listing, OnOneChain, Renaming, pieces, replaced, Paired}
-use Rattle.statements.specs.Demand3.{Agree, Further, made, OfOne, Unmoved, Demand3}
+use Rattle.statements.specs.Chains.{IsOpen, IsClosed, Chain, Alike, Listing, OnOneChain, Renaming, pieces, replaced, Paired, HoldTheSame}
+use Rattle.statements.specs.Demand3.{Agree, Further, made, Compressed, OfOne, Unmoved, Demand3}
 use Rattle.statements.specs.WalkOrder.{Walks}
 use Rattle.statements.specs.Answers.{answers}
 use Rattle.statements.specs.DrainsChain.{DrainsChain}
@@ -51,7 +51,7 @@ use Rattle.demand3.proofs.Demand3.{demand-3, demand-3-at}
 use Rattle.every_call.proofs.RefusalChangesNothing.{refusal-changes-nothing}
 use Rattle.every_call.proofs.EveryCallKeeps.{every-call-keeps, any-calls-keep, inside-a-run}
 use Rattle.every_call.proofs.RunIsFold.{reply-of-a-run, one-command}
-use Rattle.every_call.proofs.Insertions.{insert-by-call, no-such-kind, full-exactly-by-call, done-insert-places, insertion-answers, grown-from-empty}
+use Rattle.every_call.proofs.Insertions.{insert-by-call, no-such-kind, sixteen-exactly, full-exactly-by-call, done-insert-places, insertion-answers, grown-from-empty}
 use Rattle.every_call.proofs.ContractDetermines.{contract-determines, contract-can-be-kept, programs-agree}
 use Rattle.every_call.proofs.ByContract.{refusal-by-contract, kept-by-contract, drain-by-contract, insert-by-contract, full-by-contract, demand-3-by-contract, demand-3-of-the-port, run-by-contract, check-by-contract, well-formed-after-calls, well-formed-after-commands, answers-are-words}
 
@@ -210,6 +210,9 @@ module _ (limit top : ℕ) (a : Arena) (p q : Pointer) (code x : ℕ) (l : List 
   pub no-such-kind-in-full : verdict limit a ≡ 0 → kindOf code p q ≡ unknown → replyTo limit top (Insert code p q x) a l ≡ reply 16 (0 ∷ 0 ∷ []) a l
   no-such-kind-in-full = no-such-kind limit top a p q code x l
 
+  pub sixteen-exactly-in-full : verdict limit a ≡ 0 → (replyTo limit top (Insert code p q x) a l .number ≡ 16) ↔ ((code ≤ 5) ⊎ (20 ≤ code))
+  sixteen-exactly-in-full = sixteen-exactly limit top a p q code x l
+
   pub full-exactly-by-call-in-full : verdict limit a ≡ 0 → (k : InsertKind) → kindOf code p q ≡ kind k
       → (replyTo limit top (Insert code p q x) a l .number ≡ 18) ↔ ((placeOf a (newSlot a) k ≡ nowhere → ⊥) × (linkCount a ≡ capacity a))
   full-exactly-by-call-in-full = full-exactly-by-call limit top a p q code x l
@@ -233,6 +236,8 @@ pub grown-from-empty-in-full : (limit top c g : ℕ) (ps ns gs vs : List ℕ) �
     let r = replyTo limit top (CompressCanonical (f .reset)) a (f .whereFrom) in
     ((r .number ≡ 0) ⊎ (r .number ≡ 100))
     × OfOne limit top a (r .arena) (take (linkCount a) (r .back)) (linkCount a) (pieces (at (r .arena .next)) (linkCount a))
+    × ((cs ds : List Chain) → Listing a cs → Listing a ds → Paired Alike cs ds)
+    × ((b b′ : Arena) (col : List ℕ) → Compressed limit top b b′ col → linkCount a ≡ linkCount b → Agree (r .arena) b′ (linkCount a) → HoldTheSame a b)
     × ((fs : List Further) → Unmoved limit top (r .arena) (map made fs) (linkCount a)))
 grown-from-empty-in-full = grown-from-empty
 

@@ -1,12 +1,13 @@
--- Insertion by its public call, and arenas that grow from empty: `done-insert-places` says of an insertion that is done where the link went, `full-exactly-by-call` when there is no room,
+-- Insertion by its public call, and arenas that grow from empty: `done-insert-places` says of an insertion that is done where the link went, `full-exactly-by-call` when there is no room, `sixteen-exactly` when there is no such kind,
 -- `insertion-answers` which words an inserting command of a run answers, and `grown-from-empty` that whatever calls are made on an empty arena, the arena passes the check and demand 3
 -- holds of its compression. Assumes nothing.
-use Prim.Native.Nat.{ℕ, _+_, _≤_}
+use Prim.Native.Nat.{ℕ, _≤_}
 use mathlib.Core.Path.{_≡_, refl, sym, ap, _∙_}
 use mathlib.Core.Logic.{_⊎_, inl, inr, _↔_}
-use mathlib.Core.Bool.{Bool, true, false, cond}
+use mathlib.Core.Bool.{false}
 use mathlib.Core.List.{List, [], _∷_, map}
 use native.Mathlib.Omega.{arith}
+use native.Mathlib.Decide.{decLe}
 use lib.ListN.{length, take}
 use lib.Dec.{eqb}
 use borrow.Author.Tests.{eq-eqb, eqb-true, eqb-false, ne-eqb}
@@ -18,9 +19,10 @@ use Rattle.definitions.specs.Read.{Pointer}
 use Rattle.definitions.specs.Insert.{InsertKind, Place, nowhere, between, placeOf, newSlot, isFull, insertAt, insert, Coded, kind, unknown, kindOf, insertCoded}
 use Rattle.definitions.specs.Run.{Command, apply}
 use Rattle.definitions.specs.Calls.{Insert, accepted, replyTo, Made, arenaAfter}
+use Rattle.definitions.proofs.Codes.{no-kind, has-kind}
 use Rattle.definitions.proofs.Tests.{by-test}
-use Rattle.statements.specs.Chains.{pieces}
-use Rattle.statements.specs.Demand3.{Accepted, Further, made, compress, Compressed, OfOne, Unmoved}
+use Rattle.statements.specs.Chains.{Chain, Alike, Listing, pieces, Paired, HoldTheSame}
+use Rattle.statements.specs.Demand3.{Accepted, Agree, Further, made, compress, Compressed, OfOne, Unmoved}
 use Rattle.statements.specs.InsertPlaces.{InsertPlaces}
 use Rattle.insertion.proofs.Empty.{empty-passes}
 use Rattle.insertion.proofs.Full.{full-exactly}
@@ -29,6 +31,15 @@ use Rattle.demand3.proofs.Demand3.{demand-3-at}
 use Rattle.every_call.proofs.EveryCallKeeps.{any-calls-keep}
 
 -- ---- the public call
+
+-- a kind is never answered 16
+not-sixteen : (a : Arena) (x : ℕ) (l : List ℕ) (k : InsertKind) → insert a k x l .number ≡ 16 → ⊥
+unfolding insert insertAt
+not-sixteen a x l k = at-place (placeOf a (newSlot a) k)
+  where
+    at-place : (p : Place) → insertAt a p x l .number ≡ 16 → ⊥
+    at-place nowhere e = omega (arith, e)
+    at-place (between u v) e = by-test (isFull a) (λ t. omega (arith, rw t at e)) (λ t. omega (arith, rw t at e))
 
 module _ (limit top : ℕ) (a : Arena) (p q : Pointer) (code x : ℕ) (l : List ℕ) where
   abbrev replied : Reply
@@ -45,6 +56,23 @@ module _ (limit top : ℕ) (a : Arena) (p q : Pointer) (code x : ℕ) (l : List 
 
   pub full-exactly-by-call : verdict limit a ≡ 0 → (k : InsertKind) → kindOf code p q ≡ kind k → (replied .number ≡ 18) ↔ ((placeOf a (newSlot a) k ≡ nowhere → ⊥) × (linkCount a ≡ capacity a))
   full-exactly-by-call passes k e = rw (insert-by-call passes k e) (full-exactly limit a passes k x l)
+
+  -- 16 comes exactly where the code is none of 6 to 19
+  pub sixteen-exactly : verdict limit a ≡ 0 → (replied .number ≡ 16) ↔ ((code ≤ 5) ⊎ (20 ≤ code))
+  sixteen-exactly passes = (refused, λ outside. ap (λ (r : Reply). r .number) (no-such-kind passes (no-kind code p q outside)))
+    where
+      by-kind : (c : Coded) → kindOf code p q ≡ c → replied .number ≡ 16 → kindOf code p q ≡ unknown
+      by-kind unknown e sixteen = e
+      by-kind (kind k) e sixteen = absurd (not-sixteen a x l k (ap (λ (r : Reply). r .number) (sym (insert-by-call passes k e)) ∙ sixteen))
+
+      refused : replied .number ≡ 16 → (code ≤ 5) ⊎ (20 ≤ code)
+      refused sixteen = elim (decLe code 5) [
+        | yes low ↦ inl low
+        | no over ↦ elim (decLe 20 code) [
+          | yes high ↦ inr high
+          | no under ↦ absurd (has-kind code p q (omega arith) (omega arith) (by-kind (kindOf code p q) refl sixteen))
+        ]
+      ]
 
   -- what is said of an insertion that is done: its code stands for a kind, the answer is the new pointer, and the link is placed as the kind says
   abbrev Placed : Type 0
@@ -76,50 +104,6 @@ module _ (a : Arena) (x : ℕ) where
   at-place nowhere = inr (inl refl)
   at-place (between u v) = by-test (isFull a) (λ t. rw t (inr (inr refl))) (λ t. rw t (inl refl))
 
--- the codes from 6 to 19 stand for a kind each
-no-other : (k : InsertKind) → kind k ≡ unknown → ⊥
-no-other k e = let z : _≡_ {A = ℕ} 0 1 = cc in omega arith
-
-skipped : (t : Bool) (k : InsertKind) (c : Coded) → cond t (kind k) c ≡ unknown → (t ≡ false) × (c ≡ unknown)
-skipped true k c e = absurd (no-other k e)
-skipped false k c e = (refl, e)
-
-above : (k code : ℕ) → k ≤ code → eqb code k ≡ false → k + 1 ≤ code
-above k code low t = let d = eqb-false code k t in omega arith
-
-has-kind : (code : ℕ) (p q : Pointer) → 6 ≤ code → code ≤ 19 → kindOf code p q ≡ unknown → ⊥
-unfolding kindOf
-has-kind code p q low high e =
-    let is-6 = skipped _ _ _ e in
-    let from-7 = above 6 code low (is-6 .0) in
-    let is-7 = skipped _ _ _ (is-6 .1) in
-    let from-8 = above 7 code from-7 (is-7 .0) in
-    let is-8 = skipped _ _ _ (is-7 .1) in
-    let from-9 = above 8 code from-8 (is-8 .0) in
-    let is-9 = skipped _ _ _ (is-8 .1) in
-    let from-10 = above 9 code from-9 (is-9 .0) in
-    let is-10 = skipped _ _ _ (is-9 .1) in
-    let from-11 = above 10 code from-10 (is-10 .0) in
-    let is-11 = skipped _ _ _ (is-10 .1) in
-    let from-12 = above 11 code from-11 (is-11 .0) in
-    let is-12 = skipped _ _ _ (is-11 .1) in
-    let from-13 = above 12 code from-12 (is-12 .0) in
-    let is-13 = skipped _ _ _ (is-12 .1) in
-    let from-14 = above 13 code from-13 (is-13 .0) in
-    let is-14 = skipped _ _ _ (is-13 .1) in
-    let from-15 = above 14 code from-14 (is-14 .0) in
-    let is-15 = skipped _ _ _ (is-14 .1) in
-    let from-16 = above 15 code from-15 (is-15 .0) in
-    let is-16 = skipped _ _ _ (is-15 .1) in
-    let from-17 = above 16 code from-16 (is-16 .0) in
-    let is-17 = skipped _ _ _ (is-16 .1) in
-    let from-18 = above 17 code from-17 (is-17 .0) in
-    let is-18 = skipped _ _ _ (is-17 .1) in
-    let from-19 = above 18 code from-18 (is-18 .0) in
-    let is-19 = skipped _ _ _ (is-18 .1) in
-    let from-20 = above 19 code from-19 (is-19 .0) in
-    omega (arith, from-20)
-
 pub insertion-answers : (top : ℕ) (a : Arena) (c : Command) → 6 ≤ c .code → c .code ≤ 19 → (apply top a c .number ≡ 0) ⊎ ((apply top a c .number ≡ 17) ⊎ (apply top a c .number ≡ 18))
 unfolding apply
 insertion-answers top a c low high = rw (off 1 (omega arith), off 2 (omega arith), off 3 (omega arith), off 4 (omega arith), off 5 (omega arith)) (some-kind (kindOf (c .code) (c .first) (c .second)) refl)
@@ -140,6 +124,8 @@ pub grown-from-empty : (limit top c g : ℕ) (ps ns gs vs : List ℕ) → length
     let r = compress limit top f a in
     Accepted r
     × OfOne limit top a (r .arena) (take (linkCount a) (r .back)) (linkCount a) (pieces (at (r .arena .next)) (linkCount a))
+    × ((cs ds : List Chain) → Listing a cs → Listing a ds → Paired Alike cs ds)
+    × ((b b′ : Arena) (col : List ℕ) → Compressed limit top b b′ col → linkCount a ≡ linkCount b → Agree (r .arena) b′ (linkCount a) → HoldTheSame a b)
     × ((fs : List Further) → Unmoved limit top (r .arena) (map made fs) (linkCount a)))
 grown-from-empty limit top c g ps ns gs vs lp ln lg lv small two ms =
     let a = arenaAfter limit top ms (arena ps ns gs vs (0 ∷ 0 ∷ 0 ∷ g ∷ [])) in
@@ -148,5 +134,11 @@ grown-from-empty limit top c g ps ns gs vs lp ln lg lv small two ms =
     let compressed : (f : Further) → length (f .whereFrom) ≡ capacity a → Compressed limit top a (compress limit top f a .arena) (compress limit top f a .back) = λ f long.
     record { call = f; accepted = d .accepted a f passes long; left = refl; whereFrom = refl } in (
       passes,
-      λ f long. (d .accepted a f passes long, d .one a _ _ (compressed f long), d .unmoved a _ _ (compressed f long)),
+      λ f long. (
+        d .accepted a f passes long,
+        d .one a _ _ (compressed f long),
+        d .listings a _ _ (compressed f long),
+        λ b b′ col other. d .same a b _ b′ _ col (compressed f long) other,
+        d .unmoved a _ _ (compressed f long),
+      ),
     )

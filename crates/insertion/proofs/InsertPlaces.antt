@@ -1,4 +1,4 @@
--- After an accepted insertion the chains are the old ones but for those that the kind names. Assumes nothing.
+-- An insertion that is done makes the chain that its kind says, and leaves every other chain and link as it was. Assumes nothing.
 use Prim.Native.Nat.{ℕ, _≤_}
 use mathlib.Core.Path.{_≡_, refl, sym, ap, _∙_}
 use mathlib.Core.Bool.{true, false, true≢false}

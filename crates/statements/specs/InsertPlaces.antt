@@ -42,8 +42,8 @@ Apart (PrevTo p) c = count (slotOf p) (c .members) ≡ 0
 Apart (AtInterlink p q) c = (count (slotOf p) (c .members) ≡ 0) × (count (slotOf q) (c .members) ≡ 0)
 Apart (Bridge p q) c = (count (slotOf p) (c .members) ≡ 0) × (count (slotOf q) (c .members) ≡ 0)
 
--- after an accepted insertion the chains are the old ones but for those that the kind names: a is the arena before, b after, t the slot of the new
--- link and x its payload
+-- what an insertion that is done leaves: the chain that the kind makes, and everything that the kind does not name as it was. a is the arena before, b
+-- after, t the slot of the new link and x its payload
 pub record InsertPlaces (a b : Arena) (kind : InsertKind) (t x : ℕ) : Type 0 where
   -- the kind makes a chain of the old ones, and what it makes is a chain now
   pub made : (d : Chain) × Makes a t kind d

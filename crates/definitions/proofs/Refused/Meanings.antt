@@ -1,8 +1,8 @@
 -- What the definitions mean that statements are made of, in full and without their names: lists of slots, the place where rule 11 fails, calls made one after the
 -- other, and the arena that a contract speaks of at entry and at exit.
-use Prim.Native.Nat.{ℕ, suc, _+_, _-_, _*_, _/_}
+use Prim.Native.Nat.{ℕ, suc, _+_, _-_, _*_, _/_, _≤_}
 use mathlib.Core.Path.{_≡_, refl}
-use mathlib.Core.Logic.{_↔_}
+use mathlib.Core.Logic.{_⊎_, _↔_}
 use mathlib.Core.Bool.{Bool, true, false, cond, not, _&&_, _||_}
 use mathlib.Core.List.{List, [], _∷_, _++_, map}
 use lib.ListN.{length, getD, drop, replicate}
@@ -44,6 +44,7 @@ use Rattle.definitions.specs.Compress.{place, relocate}
 use Rattle.definitions.specs.Report.{itemSlots}
 use Rattle.definitions.specs.Calls.{Made, replyTo, repliesTo, arenaAfter}
 use Rattle.definitions.specs.Lent.{Column, atEntry, atExit}
+use Rattle.definitions.proofs.Codes.{no-kind}
 
 -- ---- words and lists
 
@@ -179,10 +180,9 @@ pub kind-of-whole : (p q : Pointer) →
     × (kindOf 17 p q ≡ kind (AtInterlink (bySlot (p .slot)) (bySlot (q .slot))))
     × (kindOf 18 p q ≡ kind (Bridge (byPointer p) (byPointer q)))
     × (kindOf 19 p q ≡ kind (Bridge (bySlot (p .slot)) (bySlot (q .slot))))
-    × (kindOf 5 p q ≡ unknown)
-    × (kindOf 20 p q ≡ unknown)
+    × ((code : ℕ) → (code ≤ 5) ⊎ (20 ≤ code) → kindOf code p q ≡ unknown)
 unfolding kindOf
-kind-of-whole p q = (refl, refl, refl, refl, refl, refl, refl, refl, refl, refl, refl, refl, refl, refl, refl, refl)
+kind-of-whole p q = (refl, refl, refl, refl, refl, refl, refl, refl, refl, refl, refl, refl, refl, refl, λ code outside. no-kind code p q outside)
 
 pub place-if-whole : (u v : ℕ) → (placeIf true u v ≡ between u v) × (placeIf false u v ≡ nowhere)
 unfolding placeIf
