@@ -20,10 +20,10 @@ use Rattle.definitions.specs.Run.{Command, commandWords, commandsOf, apply, app
 use Rattle.definitions.specs.Calls.{Call, Check, Insert, Drain, Run, CompressCanonical, accepted, replyTo, Answers, Made, arenaAfter}
 use Rattle.definitions.proofs.Tests.{by-test}
 use Rattle.definitions.proofs.Count.{In, in-cases, not-in-nil}
-use Rattle.statements.specs.Chains.{pieces}
+use Rattle.statements.specs.Chains.{Chain, pieces}
 use Rattle.statements.specs.Demand3.{Accepted, Compressed, OfOne}
 use Rattle.statements.specs.DrainsChain.{DrainsChain}
-use Rattle.statements.specs.InsertPlaces.{InsertPlaces}
+use Rattle.statements.specs.InsertPlaces.{Makes, AllThere, InsertPlaces}
 use Rattle.statements.specs.EveryCall.{Unchanged, AnswerWord}
 use Rattle.well_formed.proofs.WellFormed.{check-passes-exactly-if-well-formed}
 use Rattle.well_formed.proofs.Verdict.{verdict-bound}
@@ -32,7 +32,7 @@ use Rattle.demand3.proofs.Demand3.{demand-3, demand-3-at}
 use Rattle.every_call.proofs.RefusalChangesNothing.{refusal-changes-nothing}
 use Rattle.every_call.proofs.EveryCallKeeps.{every-call-keeps, any-calls-keep, inside-a-run}
 use Rattle.every_call.proofs.RunIsFold.{one-command, reply-of-a-run}
-use Rattle.every_call.proofs.Insertions.{done-insert-places, full-exactly-by-call}
+use Rattle.every_call.proofs.Insertions.{done-insert-places, seventeen-exactly-by-call, full-exactly-by-call}
 
 module _ (limit top : ℕ) (a : Arena) (l : List ℕ) (broken : ℕ) (r : Reply) where
   pub refusal-by-contract : (c : Call) → Answers limit top c a l broken r → (Accepted r → ⊥) → (r .arena ≡ a) × (r .back ≡ l)
@@ -57,6 +57,10 @@ module _ (limit top : ℕ) (a : Arena) (l : List ℕ) (broken : ℕ) (r : Reply)
   insert-by-contract code x p q kept done =
       subst (λ (s : Reply). (k : InsertKind) × (kindOf code p q ≡ kind k) × (s .fields ≡ newSlot a ∷ current a ∷ []) × InsertPlaces a (s .arena) k (newSlot a) x) (sym (kept .same))
       (done-insert-places limit top a p q code x l (ap (λ (s : Reply). s .number) (sym (kept .same)) ∙ done))
+
+  pub seventeen-by-contract : (code x : ℕ) (p q : Pointer) → Answers limit top (Insert code p q x) a l broken r → verdict limit a ≡ 0 → (k : InsertKind) → kindOf code p q ≡ kind k →
+      (r .number ≡ 17) ↔ (AllThere a k → (d : Chain) → Makes a (newSlot a) k d → ⊥)
+  seventeen-by-contract code x p q kept passes k e = rw (kept .same) (seventeen-exactly-by-call limit top a p q code x l passes k e)
 
   pub full-by-contract : (code x : ℕ) (p q : Pointer) → Answers limit top (Insert code p q x) a l broken r → verdict limit a ≡ 0 → (k : InsertKind) → kindOf code p q ≡ kind k →
       (r .number ≡ 18) ↔ ((placeOf a (newSlot a) k ≡ nowhere → ⊥) × (linkCount a ≡ capacity a))

@@ -25,7 +25,7 @@ use Rattle.statements.specs.Demand3.{Agree, Further, made, Compressed, OfOne, U
 use Rattle.statements.specs.WalkOrder.{Walks}
 use Rattle.statements.specs.Answers.{answers}
 use Rattle.statements.specs.DrainsChain.{DrainsChain}
-use Rattle.statements.specs.InsertPlaces.{InsertPlaces}
+use Rattle.statements.specs.InsertPlaces.{Makes, AllThere, InsertPlaces}
 use Rattle.statements.specs.EveryCall.{Unchanged, AnswerWord, OneCommand}
 use Rattle.well_formed.proofs.WellFormed.{check-passes-exactly-if-well-formed}
 use Rattle.well_formed.proofs.ReadsOnly.{verdict-reads-only, payloads-are-not-read}
@@ -38,6 +38,7 @@ use Rattle.walks.proofs.ChainOrder.{walk-open, walk-closed}
 use Rattle.walks.proofs.AnyState.{step-answers-links, none-after-none, walk-then-none, answers-are-links, none-again, walk-then-one-none}
 use Rattle.kept.proofs.Runs.{run-goes-on, answers-go-on}
 use Rattle.insertion.proofs.InsertPlaces.{insert-places, insert-answers}
+use Rattle.insertion.proofs.NoPlace.{seventeen-exactly}
 use Rattle.insertion.proofs.Full.{full-exactly}
 use Rattle.insertion.proofs.Empty.{empty-passes}
 use Rattle.drains.proofs.DrainsChain.{drain-takes-the-chain, done-drain-takes-the-chain}
@@ -50,10 +51,11 @@ use Rattle.demand3.proofs.Computed.{canonical-overflows, canonical-resets, orde
 use Rattle.demand3.proofs.Demand3.{demand-3, demand-3-at}
 use Rattle.every_call.proofs.RefusalChangesNothing.{refusal-changes-nothing}
 use Rattle.every_call.proofs.EveryCallKeeps.{every-call-keeps, any-calls-keep, inside-a-run}
+use Rattle.every_call.proofs.CapacityStays.{capacity-stays, capacity-after-calls}
 use Rattle.every_call.proofs.RunIsFold.{reply-of-a-run, one-command}
-use Rattle.every_call.proofs.Insertions.{insert-by-call, no-such-kind, sixteen-exactly, full-exactly-by-call, done-insert-places, insertion-answers, grown-from-empty}
+use Rattle.every_call.proofs.Insertions.{insert-by-call, no-such-kind, sixteen-exactly, seventeen-exactly-by-call, full-exactly-by-call, done-insert-places, insertion-answers, grown-from-empty}
 use Rattle.every_call.proofs.ContractDetermines.{contract-determines, contract-can-be-kept, programs-agree}
-use Rattle.every_call.proofs.ByContract.{refusal-by-contract, kept-by-contract, drain-by-contract, insert-by-contract, full-by-contract, demand-3-by-contract, demand-3-of-the-port, run-by-contract, check-by-contract, well-formed-after-calls, well-formed-after-commands, answers-are-words}
+use Rattle.every_call.proofs.ByContract.{refusal-by-contract, kept-by-contract, drain-by-contract, insert-by-contract, seventeen-by-contract, full-by-contract, demand-3-by-contract, demand-3-of-the-port, run-by-contract, check-by-contract, well-formed-after-calls, well-formed-after-commands, answers-are-words}
 
 -- ---- the check
 
@@ -94,6 +96,12 @@ any-calls-keep-in-full = any-calls-keep
 
 pub inside-a-run-in-full : (limit top : ℕ) (a : Arena) → verdict limit a ≡ 0 → (cs : List Command) → verdict limit (applied top a cs) ≡ 0
 inside-a-run-in-full = inside-a-run
+
+pub capacity-stays-in-full : (limit top : ℕ) (c : Call) (a : Arena) (l : List ℕ) → length (replyTo limit top c a l .arena .prev) ≡ length (a .prev)
+capacity-stays-in-full = capacity-stays
+
+pub capacity-after-calls-in-full : (limit top : ℕ) (ms : List Made) (a : Arena) → length (arenaAfter limit top ms a .prev) ≡ length (a .prev)
+capacity-after-calls-in-full = capacity-after-calls
 
 -- ---- a run
 
@@ -202,6 +210,10 @@ pub full-exactly-in-full : (limit : ℕ) (a : Arena) → verdict limit a ≡ 0 �
     → (insert a k x l .number ≡ 18) ↔ ((placeOf a (newSlot a) k ≡ nowhere → ⊥) × (linkCount a ≡ capacity a))
 full-exactly-in-full = full-exactly
 
+pub seventeen-exactly-in-full : (limit : ℕ) (a : Arena) → verdict limit a ≡ 0 → (k : InsertKind) (x : ℕ) (l : List ℕ)
+    → (insert a k x l .number ≡ 17) ↔ (AllThere a k → (d : Chain) → Makes a (newSlot a) k d → ⊥)
+seventeen-exactly-in-full = seventeen-exactly
+
 -- the public call
 module _ (limit top : ℕ) (a : Arena) (p q : Pointer) (code x : ℕ) (l : List ℕ) where
   pub insert-by-call-in-full : verdict limit a ≡ 0 → (k : InsertKind) → kindOf code p q ≡ kind k → replyTo limit top (Insert code p q x) a l ≡ insert a k x l
@@ -212,6 +224,10 @@ module _ (limit top : ℕ) (a : Arena) (p q : Pointer) (code x : ℕ) (l : List 
 
   pub sixteen-exactly-in-full : verdict limit a ≡ 0 → (replyTo limit top (Insert code p q x) a l .number ≡ 16) ↔ ((code ≤ 5) ⊎ (20 ≤ code))
   sixteen-exactly-in-full = sixteen-exactly limit top a p q code x l
+
+  pub seventeen-exactly-by-call-in-full : verdict limit a ≡ 0 → (k : InsertKind) → kindOf code p q ≡ kind k
+      → (replyTo limit top (Insert code p q x) a l .number ≡ 17) ↔ (AllThere a k → (d : Chain) → Makes a (newSlot a) k d → ⊥)
+  seventeen-exactly-by-call-in-full = seventeen-exactly-by-call limit top a p q code x l
 
   pub full-exactly-by-call-in-full : verdict limit a ≡ 0 → (k : InsertKind) → kindOf code p q ≡ kind k
       → (replyTo limit top (Insert code p q x) a l .number ≡ 18) ↔ ((placeOf a (newSlot a) k ≡ nowhere → ⊥) × (linkCount a ≡ capacity a))
@@ -231,7 +247,7 @@ empty-passes-in-full = empty-passes
 
 pub grown-from-empty-in-full : (limit top c g : ℕ) (ps ns gs vs : List ℕ) → length ps ≡ c → length ns ≡ c → length gs ≡ c → length vs ≡ c → c ≤ limit → 2 ≤ g → (ms : List Made) →
     (verdict limit (arenaAfter limit top ms (arena ps ns gs vs (0 ∷ 0 ∷ 0 ∷ g ∷ []))) ≡ 0)
-    × ((f : Further) → length (f .whereFrom) ≡ capacity (arenaAfter limit top ms (arena ps ns gs vs (0 ∷ 0 ∷ 0 ∷ g ∷ []))) →
+    × ((f : Further) → length (f .whereFrom) ≡ c →
     let a = arenaAfter limit top ms (arena ps ns gs vs (0 ∷ 0 ∷ 0 ∷ g ∷ [])) in
     let r = replyTo limit top (CompressCanonical (f .reset)) a (f .whereFrom) in
     ((r .number ≡ 0) ⊎ (r .number ≡ 100))
@@ -343,6 +359,10 @@ module _ (limit top : ℕ) (a : Arena) (l : List ℕ) (broken : ℕ) (r : Reply)
   pub insert-by-contract-in-full : (code x : ℕ) (p q : Pointer) → Answers limit top (Insert code p q x) a l broken r → r .number ≡ 0 →
       (k : InsertKind) × (kindOf code p q ≡ kind k) × (r .fields ≡ newSlot a ∷ current a ∷ []) × InsertPlaces a (r .arena) k (newSlot a) x
   insert-by-contract-in-full = insert-by-contract limit top a l broken r
+
+  pub seventeen-by-contract-in-full : (code x : ℕ) (p q : Pointer) → Answers limit top (Insert code p q x) a l broken r → verdict limit a ≡ 0 → (k : InsertKind) → kindOf code p q ≡ kind k →
+      (r .number ≡ 17) ↔ (AllThere a k → (d : Chain) → Makes a (newSlot a) k d → ⊥)
+  seventeen-by-contract-in-full = seventeen-by-contract limit top a l broken r
 
   pub full-by-contract-in-full : (code x : ℕ) (p q : Pointer) → Answers limit top (Insert code p q x) a l broken r → verdict limit a ≡ 0 → (k : InsertKind) → kindOf code p q ≡ kind k →
       (r .number ≡ 18) ↔ ((placeOf a (newSlot a) k ≡ nowhere → ⊥) × (linkCount a ≡ capacity a))

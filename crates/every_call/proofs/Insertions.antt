@@ -1,4 +1,4 @@
--- Insertion by its public call, and arenas that grow from empty: `done-insert-places` says of an insertion that is done where the link went, `full-exactly-by-call` when there is no room, `sixteen-exactly` when there is no such kind,
+-- Insertion by its public call, and arenas that grow from empty: `done-insert-places` says of an insertion that is done where the link went, `seventeen-exactly-by-call` when it has no place, `full-exactly-by-call` when there is no room, `sixteen-exactly` when there is no such kind,
 -- `insertion-answers` which words an inserting command of a run answers, and `grown-from-empty` that whatever calls are made on an empty arena, the arena passes the check and demand 3
 -- holds of its compression. Assumes nothing.
 use Prim.Native.Nat.{ℕ, _≤_}
@@ -23,12 +23,14 @@ use Rattle.definitions.proofs.Codes.{no-kind, has-kind}
 use Rattle.definitions.proofs.Tests.{by-test}
 use Rattle.statements.specs.Chains.{Chain, Alike, Listing, pieces, Paired, HoldTheSame}
 use Rattle.statements.specs.Demand3.{Accepted, Agree, Further, made, compress, Compressed, OfOne, Unmoved}
-use Rattle.statements.specs.InsertPlaces.{InsertPlaces}
+use Rattle.statements.specs.InsertPlaces.{Makes, AllThere, InsertPlaces}
 use Rattle.insertion.proofs.Empty.{empty-passes}
+use Rattle.insertion.proofs.NoPlace.{seventeen-exactly}
 use Rattle.insertion.proofs.Full.{full-exactly}
 use Rattle.insertion.proofs.InsertPlaces.{insert-places, insert-answers}
 use Rattle.demand3.proofs.Demand3.{demand-3-at}
 use Rattle.every_call.proofs.EveryCallKeeps.{any-calls-keep}
+use Rattle.every_call.proofs.CapacityStays.{capacity-after-calls}
 
 -- ---- the public call
 
@@ -56,6 +58,10 @@ module _ (limit top : ℕ) (a : Arena) (p q : Pointer) (code x : ℕ) (l : List 
 
   pub full-exactly-by-call : verdict limit a ≡ 0 → (k : InsertKind) → kindOf code p q ≡ kind k → (replied .number ≡ 18) ↔ ((placeOf a (newSlot a) k ≡ nowhere → ⊥) × (linkCount a ≡ capacity a))
   full-exactly-by-call passes k e = rw (insert-by-call passes k e) (full-exactly limit a passes k x l)
+
+  -- 17 comes exactly where, of the links that the kind names, one is not there, or there is no chain that it could make with them
+  pub seventeen-exactly-by-call : verdict limit a ≡ 0 → (k : InsertKind) → kindOf code p q ≡ kind k → (replied .number ≡ 17) ↔ (AllThere a k → (d : Chain) → Makes a (newSlot a) k d → ⊥)
+  seventeen-exactly-by-call passes k e = rw (insert-by-call passes k e) (seventeen-exactly limit a passes k x l)
 
   -- 16 comes exactly where the code is none of 6 to 19
   pub sixteen-exactly : verdict limit a ≡ 0 → (replied .number ≡ 16) ↔ ((code ≤ 5) ⊎ (20 ≤ code))
@@ -120,7 +126,7 @@ insertion-answers top a c low high = rw (off 1 (omega arith), off 2 (omega arith
 pub grown-from-empty : (limit top c g : ℕ) (ps ns gs vs : List ℕ) → length ps ≡ c → length ns ≡ c → length gs ≡ c → length vs ≡ c → c ≤ limit → 2 ≤ g → (ms : List Made) →
     let a = arenaAfter limit top ms (arena ps ns gs vs (0 ∷ 0 ∷ 0 ∷ g ∷ [])) in
     (verdict limit a ≡ 0)
-    × ((f : Further) → length (f .whereFrom) ≡ capacity a →
+    × ((f : Further) → length (f .whereFrom) ≡ c →
     let r = compress limit top f a in
     Accepted r
     × OfOne limit top a (r .arena) (take (linkCount a) (r .back)) (linkCount a) (pieces (at (r .arena .next)) (linkCount a))
@@ -131,11 +137,13 @@ grown-from-empty limit top c g ps ns gs vs lp ln lg lv small two ms =
     let a = arenaAfter limit top ms (arena ps ns gs vs (0 ∷ 0 ∷ 0 ∷ g ∷ [])) in
     let d = demand-3-at limit top in
     let passes = any-calls-keep limit top ms (arena ps ns gs vs (0 ∷ 0 ∷ 0 ∷ g ∷ [])) (empty-passes limit c g ps ns gs vs lp ln lg lv small two) in
-    let compressed : (f : Further) → length (f .whereFrom) ≡ capacity a → Compressed limit top a (compress limit top f a .arena) (compress limit top f a .back) = λ f long.
-    record { call = f; accepted = d .accepted a f passes long; left = refl; whereFrom = refl } in (
+    let as-long : capacity a ≡ c = capacity-after-calls limit top ms (arena ps ns gs vs (0 ∷ 0 ∷ 0 ∷ g ∷ [])) ∙ lp in
+    let done : (f : Further) → length (f .whereFrom) ≡ c → Accepted (compress limit top f a) = λ f long. d .accepted a f passes (long ∙ sym as-long) in
+    let compressed : (f : Further) → length (f .whereFrom) ≡ c → Compressed limit top a (compress limit top f a .arena) (compress limit top f a .back) = λ f long.
+    record { call = f; accepted = done f long; left = refl; whereFrom = refl } in (
       passes,
       λ f long. (
-        d .accepted a f passes long,
+        done f long,
         d .one a _ _ (compressed f long),
         d .listings a _ _ (compressed f long),
         λ b b′ col other. d .same a b _ b′ _ col (compressed f long) other,

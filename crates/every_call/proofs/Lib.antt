@@ -1,5 +1,6 @@
 pub mod RefusalChangesNothing
 pub mod EveryCallKeeps
+pub mod CapacityStays
 pub mod RunIsFold
 pub mod Insertions
 pub mod ContractDetermines

@@ -3,7 +3,7 @@
 use Prim.Native.Nat.{ℕ, _≤_}
 use mathlib.Core.Path.{_≡_, refl, sym, ap, _∙_}
 use mathlib.Core.Logic.{_⊎_, inl, inr}
-use mathlib.Core.Bool.{true, false, true≢false}
+use mathlib.Core.Bool.{true≢false}
 use mathlib.Core.List.{List, [], _∷_, _++_}
 use native.Mathlib.Omega.{arith}
 use native.Mathlib.Decide.{decLe}
@@ -11,12 +11,12 @@ use Rattle.definitions.specs.Columns.{at, count, firstOr, lastOr}
 use Rattle.definitions.specs.Arena.{Arena, isLink}
 use Rattle.statements.specs.Chains.{Kind, opened, closed, IsOpen, Chain, IsChain, Like, Alike}
 use Rattle.definitions.proofs.Count.{In, in-here, in-there, in-right, none-of}
-use Rattle.definitions.proofs.Linked.{last-append, linked-split}
+use Rattle.definitions.proofs.Linked.{first-append, last-append, linked-split}
 use Rattle.chains.proofs.Runs.{linked-first}
 use Rattle.chains.proofs.Links.{Link, DoublyLinked, link-nonzero}
 use Rattle.chains.proofs.OneChain.{chain-run, chain-links, run-next, run-prev, one-chain}
 use Rattle.definitions.specs.Insert.{Named, slotOf, InsertKind, Disconnected, SingleLinkCyclic, ChainEnd, ChainStart, NextTo, PrevTo, AtInterlink, Bridge}
-use Rattle.statements.specs.InsertPlaces.{chain, Makes, Apart}
+use Rattle.statements.specs.InsertPlaces.{chain, following, Makes, Apart}
 use Rattle.kept.proofs.PutIn.{PutIn, Fits}
 use Rattle.insertion.proofs.Chains.{on-chain, end-chain, start-chain}
 use Rattle.insertion.proofs.Grown.{stays-chain, was-chain, behind, alone, alone-closed, in-front, before, joins, closes}
@@ -36,16 +36,15 @@ has-new a t (Bridge p q) d (inr m) = rw (m .4) (in-right t (m .0) _ (in-here t _
 
 -- ---- the kind makes a chain
 
-module _ (a : Arena) (la : DoublyLinked a) (t u v : ℕ) where
-  -- what follows p in its chain is its next, or the first where p is the last of a closed one
-  follows-in : (k : Kind) (c : List ℕ) (s : ℕ) (e : List ℕ) (q : ℕ) → IsChain a k (c ++ s ∷ e) → Link a q → at (a .next) s ≡ q → firstOr (firstOr 0 (c ++ s ∷ [])) e ≡ q
-  unfolding IsChain firstOr
-  follows-in k c s (y ∷ ys) q h lq n =
-      let run = chain-run a k (c ++ s ∷ y ∷ ys) h in
-      sym (linked-first (at (a .next)) s (y ∷ ys) (run .0) (linked-split (at (a .next)) c (s ∷ y ∷ ys) (run .0) (run .1 .linked) .1)) ∙ n
-  follows-in opened c s [] q h lq n = absurd (link-nonzero a q lq (sym n ∙ linked-first (at (a .next)) s [] 0 (linked-split (at (a .next)) c (s ∷ []) 0 (h .linked) .1)))
-  follows-in closed c s [] q h lq n = sym (linked-first (at (a .next)) s [] _ (linked-split (at (a .next)) c (s ∷ []) _ (h .linked) .1)) ∙ n
+-- what comes after a link in its chain is its next
+pub follows-in : (a : Arena) (k : Kind) (c : List ℕ) (s : ℕ) (e : List ℕ) → IsChain a k (c ++ s ∷ e) → following k (c ++ s ∷ []) e ≡ at (a .next) s
+unfolding IsChain following
+follows-in a opened c s e h = sym (linked-first (at (a .next)) s e 0 (linked-split (at (a .next)) c (s ∷ e) 0 (h .linked) .1))
+follows-in a closed c s e h =
+    let same : firstOr 0 (c ++ s ∷ []) ≡ firstOr 0 (c ++ s ∷ e) = unfold firstOr in first-append 0 c (s ∷ []) ∙ sym (first-append 0 c (s ∷ e)) in
+    ap (λ (z : ℕ). firstOr z e) same ∙ sym (linked-first (at (a .next)) s e _ (linked-split (at (a .next)) c (s ∷ e) _ (h .linked) .1))
 
+module _ (a : Arena) (la : DoublyLinked a) (t u v : ℕ) where
   bridges : (p q : Named) → (c : List ℕ) → IsOpen a (c ++ slotOf p ∷ []) → (e : List ℕ) → IsOpen a (slotOf q ∷ e) → (d : Chain) × Makes a t (Bridge p q) d
   unfolding Makes firstOr IsChain Like lastOr
   bridges p q c h e g = go (decLe 1 (count (slotOf q) (c ++ slotOf p ∷ [])))
@@ -66,7 +65,7 @@ module _ (a : Arena) (la : DoublyLinked a) (t u v : ℕ) where
   makes-one (PrevTo p) f = let c = on-chain a la (slotOf p) (f .2) in (chain (c .0) (c .1 ++ t ∷ slotOf p ∷ c .2), (c .0, c .1, c .2, c .3, refl))
   makes-one (AtInterlink p q) f =
       let c = on-chain a la (slotOf p) (f .2) in
-      (chain (c .0) (c .1 ++ slotOf p ∷ t ∷ c .2), (c .0, c .1, c .2, c .3, follows-in (c .0) (c .1) (slotOf p) (c .2) (slotOf q) (c .3) (f .3) (f .4), refl))
+      (chain (c .0) (c .1 ++ slotOf p ∷ t ∷ c .2), (c .0, c .1, c .2, c .3, follows-in a (c .0) (c .1) (slotOf p) (c .2) (c .3) ∙ f .4, refl))
   makes-one (Bridge p q) f =
       let c = end-chain a la (slotOf p) (f .2) (f .4) in
       let e = start-chain a la (slotOf q) (f .3) (f .5) in

@@ -47,7 +47,7 @@ pub record PutIn (a b : Arena) (t u v : ℕ) : Type 0 where
   pub prev : Column (a .prev) (b .prev) t u v
   pub next : Column (a .next) (b .next) t v u
 
-placed : (fits : Bool) (u v s t : ℕ) → placeIf fits u v ≡ between s t → (fits ≡ true) × (u ≡ s) × (v ≡ t)
+pub placed : (fits : Bool) (u v s t : ℕ) → placeIf fits u v ≡ between s t → (fits ≡ true) × (u ≡ s) × (v ≡ t)
 unfolding placeIf
 placed true u v s t e = (refl, cc, cc)
 placed false u v s t e = let z : _≡_ {A = ℕ} 0 1 = cc in absurd (omega arith)

@@ -6,11 +6,16 @@ use mathlib.Core.Bool.{true, false}
 use mathlib.Core.List.{List, [], _∷_, _++_}
 use Rattle.definitions.specs.Columns.{at, count, firstOr, lastOr}
 use Rattle.definitions.specs.Arena.{Arena, current, isLink}
-use Rattle.definitions.specs.Insert.{slotOf, InsertKind, Disconnected, SingleLinkCyclic, ChainEnd, ChainStart, NextTo, PrevTo, AtInterlink, Bridge}
+use Rattle.definitions.specs.Insert.{slotOf, isThere, InsertKind, Disconnected, SingleLinkCyclic, ChainEnd, ChainStart, NextTo, PrevTo, AtInterlink, Bridge}
 use Rattle.statements.specs.Chains.{Kind, opened, closed, IsOpen, Chain, IsChain, Alike}
 
 abbrev pub chain : Kind → List ℕ → Chain
 chain k c = record { kind = k; members = c }
+
+-- what comes after the links c of a chain, if e are the others, in their order: the first of e; behind the last link of an open chain nothing, behind that of a closed one its first
+unfoldable pub following : Kind → List ℕ → List ℕ → ℕ
+following opened c e = firstOr 0 e
+following closed c e = firstOr (firstOr 0 c) e
 
 -- d is the chain that the kind makes of the chains of a; t is the new link (REFERENCE, Insert)
 unfoldable pub Makes : Arena → ℕ → InsertKind → Chain → Type 0
@@ -23,13 +28,24 @@ Makes a t (ChainStart p) d = (c : List ℕ) × IsOpen a (slotOf p ∷ c) × (d �
 -- the chain that p is on, open or closed as it was, with the new link right behind p, or right before p
 Makes a t (NextTo p) d = (k : Kind) × (c : List ℕ) × (e : List ℕ) × IsChain a k (c ++ slotOf p ∷ e) × (d ≡ chain k (c ++ slotOf p ∷ t ∷ e))
 Makes a t (PrevTo p) d = (k : Kind) × (c : List ℕ) × (e : List ℕ) × IsChain a k (c ++ slotOf p ∷ e) × (d ≡ chain k (c ++ t ∷ slotOf p ∷ e))
--- the same right behind p, where q comes after p; if p is the last of a closed chain, q is its first
+-- the same right behind p, where q comes after p
 Makes a t (AtInterlink p q) d =
-    (k : Kind) × (c : List ℕ) × (e : List ℕ) × IsChain a k (c ++ slotOf p ∷ e) × (firstOr (firstOr 0 (c ++ slotOf p ∷ [])) e ≡ slotOf q) × (d ≡ chain k (c ++ slotOf p ∷ t ∷ e))
+    (k : Kind) × (c : List ℕ) × (e : List ℕ) × IsChain a k (c ++ slotOf p ∷ e) × (following k (c ++ slotOf p ∷ []) e ≡ slotOf q) × (d ≡ chain k (c ++ slotOf p ∷ t ∷ e))
 -- two open chains joined around the new link, of which the one ends with p and the other begins with q; or one that does both, closed by it
 Makes a t (Bridge p q) d =
     ((c : List ℕ) × (e : List ℕ) × IsOpen a (c ++ slotOf p ∷ []) × IsOpen a (slotOf q ∷ e) × ((c ++ slotOf p ∷ [] ≡ slotOf q ∷ e) → ⊥) × (d ≡ chain opened (c ++ slotOf p ∷ t ∷ slotOf q ∷ e)))
     ⊎ ((c : List ℕ) × IsOpen a c × (firstOr 0 c ≡ slotOf q) × (lastOr 0 c ≡ slotOf p) × (d ≡ chain closed (c ++ t ∷ [])))
+
+-- every link that the kind names is there, by pointer or by slot
+unfoldable pub AllThere : Arena → InsertKind → Type 0
+AllThere a Disconnected = Unit {0}
+AllThere a SingleLinkCyclic = Unit {0}
+AllThere a (ChainEnd p) = isThere a p ≡ true
+AllThere a (ChainStart p) = isThere a p ≡ true
+AllThere a (NextTo p) = isThere a p ≡ true
+AllThere a (PrevTo p) = isThere a p ≡ true
+AllThere a (AtInterlink p q) = (isThere a p ≡ true) × (isThere a q ≡ true)
+AllThere a (Bridge p q) = (isThere a p ≡ true) × (isThere a q ≡ true)
 
 -- the chain c has no link that the kind names
 unfoldable pub Apart : InsertKind → Chain → Type 0

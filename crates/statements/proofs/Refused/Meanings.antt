@@ -11,7 +11,7 @@ use Rattle.definitions.specs.Columns.{count, firstOr, lastOr, slotsFrom}
 use Rattle.definitions.specs.Arena.{Arena, current, isLink}
 use Rattle.definitions.specs.Edit.{overflows}
 use Rattle.definitions.specs.Remove.{removedAll}
-use Rattle.definitions.specs.Insert.{Named, slotOf, Disconnected, SingleLinkCyclic, ChainEnd, ChainStart, NextTo, PrevTo, AtInterlink, Bridge}
+use Rattle.definitions.specs.Insert.{Named, slotOf, isThere, Disconnected, SingleLinkCyclic, ChainEnd, ChainStart, NextTo, PrevTo, AtInterlink, Bridge}
 use Rattle.definitions.specs.Reply.{Reply}
 use Rattle.definitions.specs.Walk.{Walk, step}
 use Rattle.definitions.specs.Calls.{CompressCanonical, replyTo}
@@ -19,7 +19,7 @@ use Rattle.statements.specs.Chains.{Kind, opened, closed, Some, OfLinks,
 use Rattle.statements.specs.Demand3.{Accepted, Every, Further, made, compress}
 use Rattle.statements.specs.Answers.{answers}
 use Rattle.statements.specs.DrainsChain.{overflowsAt}
-use Rattle.statements.specs.InsertPlaces.{chain, Makes, Apart}
+use Rattle.statements.specs.InsertPlaces.{chain, following, Makes, AllThere, Apart}
 
 abbrev Same : Type 0 → Type 0 → Type 0
 Same A B = A ↔ B
@@ -106,6 +106,10 @@ overflows-at-whole top a ss k = refl
 pub chain-whole : (k : Kind) (c : List ℕ) → (chain k c .kind ≡ k) × (chain k c .members ≡ c)
 chain-whole k c = (refl, refl)
 
+pub following-whole : (c e : List ℕ) → (following opened c e ≡ firstOr 0 e) × (following closed c e ≡ firstOr (firstOr 0 c) e)
+unfolding following
+following-whole c e = (refl, refl)
+
 pub makes-whole : (a : Arena) (t : ℕ) (p q : Named) (d : Chain) →
     Same (Makes a t Disconnected d) (d ≡ chain opened (t ∷ []))
     × Same (Makes a t SingleLinkCyclic d) (d ≡ chain closed (t ∷ []))
@@ -114,12 +118,24 @@ pub makes-whole : (a : Arena) (t : ℕ) (p q : Named) (d : Chain) →
     × Same (Makes a t (NextTo p) d) ((k : Kind) × (c : List ℕ) × (e : List ℕ) × IsChain a k (c ++ slotOf p ∷ e) × (d ≡ chain k (c ++ slotOf p ∷ t ∷ e)))
     × Same (Makes a t (PrevTo p) d) ((k : Kind) × (c : List ℕ) × (e : List ℕ) × IsChain a k (c ++ slotOf p ∷ e) × (d ≡ chain k (c ++ t ∷ slotOf p ∷ e)))
     × Same (Makes a t (AtInterlink p q) d)
-    ((k : Kind) × (c : List ℕ) × (e : List ℕ) × IsChain a k (c ++ slotOf p ∷ e) × (firstOr (firstOr 0 (c ++ slotOf p ∷ [])) e ≡ slotOf q) × (d ≡ chain k (c ++ slotOf p ∷ t ∷ e)))
+    ((k : Kind) × (c : List ℕ) × (e : List ℕ) × IsChain a k (c ++ slotOf p ∷ e) × (following k (c ++ slotOf p ∷ []) e ≡ slotOf q) × (d ≡ chain k (c ++ slotOf p ∷ t ∷ e)))
     × Same (Makes a t (Bridge p q) d)
     (((c : List ℕ) × (e : List ℕ) × IsOpen a (c ++ slotOf p ∷ []) × IsOpen a (slotOf q ∷ e) × ((c ++ slotOf p ∷ [] ≡ slotOf q ∷ e) → ⊥) × (d ≡ chain opened (c ++ slotOf p ∷ t ∷ slotOf q ∷ e)))
     ⊎ ((c : List ℕ) × IsOpen a c × (firstOr 0 c ≡ slotOf q) × (lastOr 0 c ≡ slotOf p) × (d ≡ chain closed (c ++ t ∷ []))))
 unfolding Makes
 makes-whole a t p q d = (itself, itself, itself, itself, itself, itself, itself, itself)
+
+pub all-there-whole : (a : Arena) (p q : Named) →
+    Same (AllThere a Disconnected) (Unit {0})
+    × Same (AllThere a SingleLinkCyclic) (Unit {0})
+    × Same (AllThere a (ChainEnd p)) (isThere a p ≡ true)
+    × Same (AllThere a (ChainStart p)) (isThere a p ≡ true)
+    × Same (AllThere a (NextTo p)) (isThere a p ≡ true)
+    × Same (AllThere a (PrevTo p)) (isThere a p ≡ true)
+    × Same (AllThere a (AtInterlink p q)) ((isThere a p ≡ true) × (isThere a q ≡ true))
+    × Same (AllThere a (Bridge p q)) ((isThere a p ≡ true) × (isThere a q ≡ true))
+unfolding AllThere
+all-there-whole a p q = (itself, itself, itself, itself, itself, itself, itself, itself)
 
 pub apart-whole : (p q : Named) (c : Chain) →
     Same (Apart Disconnected c) (Unit {0})
