@@ -338,5 +338,7 @@ mod tests {
         }
         let overflows = told("insert disconnected 1\nremove 1:4294967295");
         assert_eq!(overflows, ["2 commands, none refused".to_string(), OVERFLOWED.to_string()]);
+        let both = told("insert disconnected 1\nremove 1:4294967295\nremove 1:1");
+        assert_eq!(both, ["3 commands, 1 refused".to_string(), line(3), OVERFLOWED.to_string()]);
     }
 }

@@ -107,7 +107,12 @@ impl Words<'_, '_> {
         let word = self.line.peek();
         let known = || names.iter().map(|(name, _)| *name);
         let Some((name, read)) = names.iter().find(|(name, _)| *name == word) else {
-            let near = nearest(word, known()).map(|name| format!("; the nearest is `{name}`"));
+            // Where no command stands yet, a kind is known too, as what it is.
+            let kinds = KINDS.iter().map(|(name, _)| *name).filter(|_| self.names.is_empty());
+            let near = nearest(word, known().chain(kinds)).map(|name| {
+                let insert = if known().any(|known| known == name) { "" } else { "insert " };
+                format!("; the nearest is `{insert}{name}`")
+            });
             let expected = format!("{what}{}{}", listed(known(), "or"), near.unwrap_or_default());
             return Err(self.line.error(&expected));
         };
@@ -215,6 +220,11 @@ mod tests {
             read(text).into_iter().map(|given| (given.line, given.text)).collect();
         let expected = [(3, "remove 1:2"), (4, "break_next 3:4"), (7, "insert disconnected 5")];
         assert_eq!(read, expected.map(|(line, text)| (line, text.to_string())));
+        for end in ["\n", "\r\n", "\r"] {
+            let text = ["# a list", "remove 1:2", "", "remove 3:4 # gone", ""].join(end);
+            let lines: Vec<usize> = parse(text.as_bytes()).unwrap().iter().map(|given| given.line).collect();
+            assert_eq!(lines, [2, 4], "{end:?}");
+        }
         for text in ["", "\n", "# remove 1:2", "\u{feff}", " \t\r\n"] {
             assert_eq!(parse(text.as_bytes()), Ok(Vec::new()), "{text:?}");
         }

@@ -69,6 +69,12 @@ impl Target {
 /// Refuses to write over what is read, over standard output, or twice to one file.
 pub fn no_clash(sources: &[&Source], targets: &[Target]) -> Result<(), String> {
     let output = Place { path: None, file: standard(&io::stdout()) };
+    if let Some(source) = sources.iter().find(|source| source.place().is(&output)) {
+        return Err(format!(
+            "standard output goes to {}, which is read; save it in another file",
+            source.name()
+        ));
+    }
     for (k, target) in targets.iter().enumerate() {
         let place = Place::of(&target.path);
         if let Some(source) = sources.iter().find(|source| source.place().is(&place)) {

@@ -41,9 +41,10 @@ pub fn text(bytes: &[u8]) -> Result<&str, ParseError> {
     str::from_utf8(bytes).map_err(|error| not_text(bytes, error.valid_up_to()))
 }
 
-/// The lines of a text on which words stand.
+/// The lines of a text on which words stand. A line ends with LF, CR LF or CR.
 pub fn lines(text: &str) -> impl Iterator<Item = Line<'_>> {
-    text.lines().enumerate().map(|(k, text)| Line::new(k + 1, text)).filter(|line| !line.is_empty())
+    let ends = text.split('\n').flat_map(|text| text.strip_suffix('\r').unwrap_or(text).split('\r'));
+    ends.enumerate().map(|(k, text)| Line::new(k + 1, text)).filter(|line| !line.is_empty())
 }
 
 /// A line of which the first words are read already.
@@ -133,8 +134,9 @@ pub fn number<T: TryFrom<u64>>(word: &str) -> Option<T> {
 
 /// The line and column behind the end of a text.
 fn end_of(text: &str) -> (usize, usize) {
-    let last = text.rsplit('\n').next().unwrap_or_default();
-    (text.matches('\n').count() + 1, last.chars().count() + 1)
+    let ends = text.matches(['\n', '\r']).count() - text.matches("\r\n").count();
+    let last = text.rsplit(['\n', '\r']).next().unwrap_or_default();
+    (ends + 1, last.chars().count() + 1)
 }
 
 /// The error that the byte at a place, the first such, is no text.

@@ -1,6 +1,6 @@
 //! Which of several names was meant by a word that is none of them.
 
-/// The name that is written most like a word, capitals aside; none if half of the letters are other ones.
+/// The name that is written most like a word, capitals aside; none if more than half of the letters are other ones.
 pub fn nearest<'n>(word: &str, names: impl Iterator<Item = &'n str>) -> Option<&'n str> {
     let word: Vec<char> = word.to_lowercase().chars().collect();
     let tried = names.map(|name| (changes(&word, name), name));
@@ -64,6 +64,8 @@ mod tests {
             ("conect", "connect"),
             ("connects", "connect"),
             ("Connect", "connect"),
+            ("CONNECT", "connect"),
+            ("BREAK_NEXT", "break_next"),
             ("cnnotect", "connect"),
             ("disconnect", "connect"),
             ("disconnected__", "connect"),

@@ -298,6 +298,19 @@ fn help_and_version_are_printed() {
     for option in ["--help", "-h"] {
         let ran = checker(&["check", option]);
         assert!(ran.stdout.starts_with("usage: checker [COMMAND] [OPTION]..\n"), "{}", ran.stdout);
+        for name in [
+            "check FILE",
+            "compress FILE",
+            "compare A B",
+            "apply FILE COMMANDS",
+            "--reset",
+            "--order-preserving",
+            "--around SLOT",
+            "--svg OUT",
+            "--html OUT",
+        ] {
+            assert!(ran.stdout.lines().any(|line| line.trim_start().starts_with(name)), "{name}");
+        }
         assert_eq!((ran.stderr.as_str(), ran.status), ("", 0));
     }
     for option in ["--version", "-V"] {

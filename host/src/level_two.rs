@@ -83,8 +83,8 @@ impl ArenaMut<'_> {
         )))
     }
 
-    /// Inserts a link with a payload, and answers its pointer. It gets the freelist's root as its slot if there is one, else
-    /// the slot after the stack, and the current generation, which stays.
+    /// Inserts a link with a payload, and answers its pointer. Its slot is the freelist's root, or where no slot is free the
+    /// one after the stack; its generation is the current one, which stays.
     ///
     /// # Errors
     ///

@@ -273,11 +273,13 @@ fn what_commands_did_is_drawn() {
     assert_eq!((page.matches("\"follows\":false").count(), page.matches("\"around\":0").count()), (2, 2));
     assert!(page.contains("title-2\">whole.txt, after edits.txt</h2>"));
     assert!(told[1..].iter().all(|told| page.contains(&format!("<p class=\"verdict told\">{told}</p>"))));
-    for (slot, asked) in [("10", 1), ("5", 2)] {
+    for (slot, asked, drawn) in [("10", 1, (9, 1)), ("5", 2, (3, 5))] {
         let ran = checker(&[&["apply", "whole.txt", "edits.txt", "--around", slot][..], &outputs].concat());
         assert_eq!(ran.status, 1);
         let picture = fs::read_to_string(&svg).unwrap();
         assert_eq!(super::drawn_asked(&picture), vec![slot; asked]);
+        let [before, after] = panels(&picture);
+        assert_eq!((boxes(before), boxes(after)), drawn, "{slot}");
     }
 }
 
@@ -329,6 +331,23 @@ fn commands_are_not_written_over() {
     assert_eq!(fs::read_to_string(&commands).unwrap(), "remove 1:5");
 }
 
+#[test]
+fn what_is_left_is_not_written_over_what_is_read() {
+    let folder = folder("apply-onto");
+    let [arena, commands] = ["arena.txt", "commands.txt"].map(|name| folder.join(name));
+    for over in [&arena, &commands] {
+        fs::copy(arenas().join("whole.txt"), &arena).unwrap();
+        fs::write(&commands, "remove 2:5\n").unwrap();
+        let before = fs::read(over).unwrap();
+        let output = fs::File::options().append(true).open(over).unwrap();
+        let ran = super::program(&["apply", word(&arena), word(&commands)]).stdout(output).output().unwrap();
+        let message =
+            format!("standard output goes to {}, which is read; save it in another file\n", word(over));
+        assert_eq!((String::from_utf8(ran.stderr).unwrap(), ran.status.code()), (message, Some(2)));
+        assert_eq!(fs::read(over).unwrap(), before);
+    }
+}
+
 /// Holds what is said of a text that is no list of commands. Nothing is drawn then.
 fn is_told(name: &str, text: &[u8], message: &str) {
     let picture = Path::new(env!("CARGO_TARGET_TMPDIR")).join(format!("apply-{name}.svg"));
@@ -345,6 +364,15 @@ fn what_is_wrong_with_a_command_has_its_place() {
     for (text, message) in [
         // Names.
         ("conect 1:5 2:5", format!("1:1: found `conect`, expected {COMMANDS}; the nearest is `connect`")),
+        // A kind without its command, as it is and almost.
+        (
+            "chain_end 2:5 7",
+            format!("1:1: found `chain_end`, expected {COMMANDS}; the nearest is `insert chain_end`"),
+        ),
+        (
+            "disconnect 2:5",
+            format!("1:1: found `disconnect`, expected {COMMANDS}; the nearest is `insert disconnected`"),
+        ),
         (
             "# \u{e9}\n\n \t Remove 1:5",
             format!("3:4: found `Remove`, expected {COMMANDS}; the nearest is `remove`"),
