@@ -265,7 +265,6 @@ fn every_definition_that_a_statement_is_made_of_has_its_meaning_in_full() {
         "walkStep",
         "drain",
         "insert",
-        "apply",
         "applied",
         "answersOf",
         "compressGeneration",
@@ -348,7 +347,7 @@ fn no_row_of_a_computed_table_is_exchanged_for_another() {
     // whoever changes a row, or what a row means, changes its file's number here
     for (file, rows, number) in [
         ("Cases.antt", 31, 0x356631fc4c46cd21),
-        ("Insertions.antt", 41, 0x442c8289e29826a6),
+        ("Insertions.antt", 43, 0x32836b0d3ebd1cdf),
         ("Refusals.antt", 38, 0x99a0be44e9eeb955),
     ] {
         let text = fs::read_to_string(crates().join("definitions/specs").join(file)).unwrap();

@@ -48,7 +48,11 @@ pub fn some_walk(r: &mut Random, a: &Arena, kept: &[Walk]) -> Walk {
 
 /// A kind of an insertion, seldom an unknown one.
 fn some_kind(r: &mut Random) -> u32 {
-    if r.once_in(20) { r.pick(&[0, 5, 20, 65_536 + kind::CHAIN_END, u32::MAX]) } else { known_kind(r) }
+    if r.once_in(20) {
+        r.pick(&[0, 1, 2, 3, 4, 5, 20, 21, 65_536 + kind::CHAIN_END, u32::MAX])
+    } else {
+        known_kind(r)
+    }
 }
 
 /// A kind of an insertion.
@@ -96,26 +100,34 @@ fn link_without(r: &mut Random, a: &Arena, column: &[u16], otherwise: Ptr) -> Pt
     tried.find(fits).map_or(otherwise, |s| to(a, s))
 }
 
+/// The payload of a new link, now and then 0 or the largest.
+fn some_payload(r: &mut Random) -> u32 {
+    let word = r.word();
+    r.pick(&[0, u32::MAX, word, word, word, word])
+}
+
+/// A slot as a command has it, seldom one over 65,535 whose lower half it is, or any other that large.
+fn some_wide_slot(r: &mut Random, slot: u16) -> u32 {
+    let slot = u32::from(slot);
+    if r.once_in(40) {
+        r.pick(&[slot + 65_536, slot + 65_536, slot + 131_072, slot + (1 << 31), 65_536, u32::MAX])
+    } else {
+        slot
+    }
+}
+
 /// The words of up to `most` commands, some of them unknown or with a slot over 65,535.
 pub fn some_commands(r: &mut Random, a: &Arena, most: usize) -> Vec<u32> {
     let mut words = Vec::new();
     for _ in 0..r.below(most) {
         let (mut p, mut q) = (some_ptr(r, a), some_ptr(r, a));
-        let mut over = || if r.once_in(40) { 65_536 } else { 0 };
-        let (over_p, over_q) = (over(), over());
         let mut code = r.pick(&[1, 1, 2, 3, 4, 4, 5, 5, 0, u32::MAX]);
         if r.once_in(2) {
             code = some_kind(r);
             (p, q) = some_place(r, a, code, p, q);
         }
-        words.extend([
-            code,
-            u32::from(p.slot) + over_p,
-            p.generation,
-            u32::from(q.slot) + over_q,
-            q.generation,
-            r.word(),
-        ]);
+        let (p_slot, q_slot) = (some_wide_slot(r, p.slot), some_wide_slot(r, q.slot));
+        words.extend([code, p_slot, p.generation, q_slot, q.generation, some_payload(r)]);
     }
     words
 }
@@ -178,7 +190,7 @@ pub fn call_of(code: usize, r: &mut Random, a: &Arena, kept: &[Walk]) -> Call {
         INSERT => {
             let kind = some_kind(r);
             let (p, q) = some_place(r, a, kind, p, q);
-            Call::Insert(kind, p, q, noise)
+            Call::Insert(kind, p, q, some_payload(r))
         }
         _ => {
             let places = if r.once_in(8) { a.capacity() + 1 } else { a.capacity() };

@@ -310,33 +310,61 @@ fn each_pair(commands: &[[u32; COMMAND_WORDS]], mut found: impl FnMut(Call)) {
 }
 
 /// Pointers to slots 0 to the stack length and 1, each with the word that stands in the generation column, also of a free
-/// slot and above the stack, and with another one.
+/// slot and above the stack, and with another one, for every second slot one that differs in its upper half alone; and a
+/// pointer to the largest slot.
 fn slots_and_words(a: &Arena) -> Vec<Ptr> {
     let mut pointers = Vec::new();
     for s in 0..=a.stack() + 1 {
         let there = s.checked_sub(1).and_then(|place| a.generation.get(place)).copied().unwrap_or(5);
-        let another = if there == 0 { a.current() } else { there.wrapping_add(1).max(1) };
+        let another = match there {
+            0 => a.current(),
+            _ if s % 2 == 0 => there ^ 0x1_0000,
+            _ => there.wrapping_add(1).max(1),
+        };
         for generation in [there, another] {
             pointers.push(Ptr { slot: s as u16, generation });
         }
     }
+    pointers.push(Ptr { slot: u16::MAX, generation: a.current() });
     pointers
 }
 
-/// Every kind of insertion, and unknown ones, with every pair of pointers, and a run of each such command, those whose
-/// second pointer is not looked at with every first.
+/// Kinds that there are not.
+const NO_KINDS: [u32; 13] =
+    [0, 1, 2, 3, 4, 5, 20, 21, 31, 256, 256 + kind::CHAIN_END, 65_536 + kind::CHAIN_END, u32::MAX];
+
+/// What is added to a slot so that it is over 65,535 and the same by its lower half.
+const OVER: [u32; 4] = [65_536, 131_072, 1 << 31, u32::MAX - 65_535];
+
+/// Payloads of insertions, 0 and the largest among them.
+const PAYLOADS: [u32; 4] = [0, 900, 70_000, u32::MAX];
+
+/// Every kind of insertion with every pair of pointers, unknown ones with every first; and a run of each such command, those
+/// whose second pointer is not looked at with every first, and with slots over 65,535.
 pub fn each_insertion(a: &Arena, mut found: impl FnMut(Call)) {
     let pointers = slots_and_words(a);
-    let unknown = [0, 5, 20, 21, kind::CHAIN_END + 65_536, u32::MAX];
-    let kinds: Vec<u32> = kind::ALL.chain(unknown).collect();
-    for &kind in &kinds {
-        for &p in &pointers {
-            for &q in &pointers {
-                found(Call::Insert(kind, p, q, 900 + kind % 100));
+    let second = |k: usize| pointers[(k + 1) % pointers.len()];
+    let payload = |k: usize| PAYLOADS[k % PAYLOADS.len()];
+    for kind in kind::ALL {
+        for (k, &p) in pointers.iter().enumerate() {
+            for (l, &q) in pointers.iter().enumerate() {
+                found(Call::Insert(kind, p, q, payload(k + l)));
+            }
+            for (word, over) in [1, 3].into_iter().flat_map(|word| OVER.map(|over| (word, over))) {
+                let mut command = command(kind, p, second(k), payload(k));
+                command[word] += over;
+                found(Call::Run(command.to_vec(), vec![NOISE; 2]));
             }
         }
     }
-    for command in commands(&kinds[..kind::ALL.count()], &pointers) {
+    for kind in NO_KINDS {
+        for (k, &p) in pointers.iter().enumerate() {
+            found(Call::Insert(kind, p, second(k), payload(k)));
+            found(Call::Run(command(kind, p, second(k), payload(k)).to_vec(), vec![NOISE; 2]));
+        }
+    }
+    for (k, mut command) in commands(&kind::ALL.collect::<Vec<u32>>(), &pointers).into_iter().enumerate() {
+        command[5] = payload(k);
         found(Call::Run(command.to_vec(), vec![NOISE; 2]));
     }
 }

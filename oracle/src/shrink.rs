@@ -6,7 +6,7 @@ use std::time::{Duration, Instant};
 use crate::compare::{Counts, Mismatch, Product};
 use crate::header::{GENERATION, LINKS, ROOT, STACK};
 use crate::runner::{Failure, Judgement, judged};
-use crate::words::{COMPRESS_CANONICAL, RUN, argument_name};
+use crate::words::{COMPRESS_CANONICAL, COMPRESS_WITH, DRAIN, RUN, argument_name};
 use crate::{Arena, COMMAND_WORDS, Call};
 
 /// How long a case is made smaller at most; one of a few hundred slots takes a small part of it.
@@ -51,6 +51,7 @@ impl<'a> Shrinker<'a> {
     fn round(&mut self) -> bool {
         let before = self.case.clone();
         self.by_blocks(slots, without_slots);
+        self.by_blocks(reported, without_reported);
         self.by_blocks(commands, without_commands);
         self.by_blocks(|case| case.lent.len(), |case, from, count| cut(&mut case.lent, from, count));
         self.zeros(|case| &mut case.arena.prev);
@@ -146,6 +147,26 @@ fn arguments_named<'a>(case: &'a mut Case, name: &'a str) -> impl Iterator<Item 
 fn slots(case: &mut Case) -> usize {
     let a = &case.arena;
     a.prev.len().max(a.next.len()).max(a.generation.len()).max(a.payload.len())
+}
+
+/// How many words a call reports of a link.
+fn reported_words(code: usize) -> usize {
+    match code {
+        DRAIN => 5,
+        COMPRESS_WITH => 4,
+        _ => 0,
+    }
+}
+
+/// The number of slots, if the call reports links.
+fn reported(case: &mut Case) -> usize {
+    if reported_words(case.code) > 0 { slots(case) } else { 0 }
+}
+
+/// Takes slots out of the arena, and the room for them out of the report.
+fn without_reported(case: &mut Case, from: usize, count: usize) {
+    without_slots(case, from, count);
+    case.lent.truncate(case.lent.len().saturating_sub(reported_words(case.code) * count));
 }
 
 /// The number of commands of a run.

@@ -36,8 +36,12 @@ const LINK: &[&str] = &["prev", "next", "payload"];
 
 /// How many calls there are: their codes are 1 to this.
 pub const CALLS_IN_ALL: usize = CALLS.len();
+/// The code of a drain.
+pub const DRAIN: usize = 12;
 /// The code of a run.
 pub const RUN: usize = 16;
+/// The code of an order-preserving compression.
+pub const COMPRESS_WITH: usize = 17;
 /// The code of a canonical compression.
 pub const COMPRESS_CANONICAL: usize = 18;
 /// The code of an insertion.

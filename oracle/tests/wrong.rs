@@ -412,6 +412,12 @@ const WRONG: &[(&str, &str, Wrong)] = &[
     ("insert", "kinds cut to 16 bits", |a, call, o| if let Call::Insert(kind, p, q, payload) = call {
         instead(a, o, Call::Insert(kind & 0xffff, *p, *q, *payload));
     }),
+    ("insert", "a run's edit made where the kind is its code", |_, call, o| if let (Call::Insert(kind @ 1..=4, p, q, payload), 16) = (call, o.reply.number) {
+        o.reply.number = model::apply(&mut o.arena, &calls::command(*kind, *p, *q, *payload));
+    }),
+    ("insert", "17 for the code of an edit", |_, call, o| if let (Call::Insert(1..=4, ..), 16) = (call, o.reply.number) {
+        o.reply.number = 17;
+    }),
     ("insert", "a pointer tried that the kind does not name", |a, call, o| if let Call::Insert(kind, _, q, _) = call {
         if kind::names(*kind) < 2 && o.reply.number == 0 && model_outcome(a, &Call::GetLink(*q)).reply.number != 0 {
             refuse(a, call, o, 17);
@@ -645,6 +651,51 @@ fn a_wrong_program_is_found_out() {
     for call in calls {
         let right = found_out(sections_of(call), 100, |_, _, _| {});
         assert!(right.is_none(), "a right program is taken for wrong: {right:?}");
+    }
+}
+
+/// Wrong programs that only small cases are sure to find: words that random ones hardly ever have.
+#[rustfmt::skip]
+const WRONG_OF_FEW_WORDS: &[(&str, &str, Wrong)] = &[
+    ("insert", "a payload of 0 not written", |a, call, o| inserted(call, o, |_, _, _, o| {
+        let place = o.reply.words[0] as usize - 1;
+        if o.arena.payload[place] == 0 {
+            o.arena.payload[place] = a.payload[place];
+        }
+    })),
+    ("insert", "generations compared by their lower halves", |a, call, o| if let (Call::Insert(kind, p, q, payload), 17) = (call, o.reply.number) {
+        let near = |p: Ptr| match a.is_link(p.slot.into()).then(|| a.ptr(p.slot.into())) {
+            Some(there) if (there.generation ^ p.generation) & 0xffff == 0 => there,
+            _ => p,
+        };
+        instead(a, o, Call::Insert(*kind, near(*p), near(*q), *payload));
+    }),
+    ("insert", "the largest slot taken for the first", |a, call, o| if let (Call::Insert(kind, p, q, payload), 17) = (call, o.reply.number) {
+        if p.slot == u16::MAX && a.is_link(1) {
+            instead(a, o, Call::Insert(*kind, a.ptr(1), *q, *payload));
+        }
+    }),
+    ("insert", "a slot of a command cut to 17 bits", |a, call, o| run_as(a, call, o, |a, _, command| {
+        let mut cut = command.to_vec();
+        cut[1] &= 0x1_ffff;
+        cut[3] &= 0x1_ffff;
+        model::apply(a, &cut)
+    })),
+    ("insert", "a payload of 0 not written in a run", |a, call, o| run_as(a, call, o, |a, _, command| {
+        let place = model::slot_to_take(a) - 1;
+        let old = a.payload.get(place).copied().unwrap_or(0);
+        let answer = model::apply(a, command);
+        if kind::ALL.contains(&command[0]) && answer == 0 && command[5] == 0 {
+            a.payload[place] = old;
+        }
+        answer
+    })),
+];
+
+#[test]
+fn a_program_wrong_about_few_words_is_found_out() {
+    for (call, what, program) in WRONG_OF_FEW_WORDS {
+        assert!(found_out(sections_of(call), 2_500, *program).is_some(), "{call}: {what}: passes for right");
     }
 }
 

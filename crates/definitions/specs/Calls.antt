@@ -13,7 +13,7 @@ use Rattle.definitions.specs.Walk.{walkStart, walkStep}
 use Rattle.definitions.specs.Edit.{connect, breakPrev, breakNext, exchangeNext, setGeneration, incGeneration}
 use Rattle.definitions.specs.Remove.{remove, drain, canonicalizeFreelist}
 use Rattle.definitions.specs.Insert.{kindOf, insertCoded}
-use Rattle.definitions.specs.Run.{run}
+use Rattle.definitions.specs.Run.{Command, run}
 use Rattle.definitions.specs.Compress.{compressWith, compressCanonical}
 
 -- a call with its arguments. What is handed in to be handed back, the lent slice that a call may write or the state of a walk, stands beside it
@@ -74,6 +74,15 @@ pub record Answers (limit top : ℕ) (c : Call) (a : Arena) (l : List ℕ) (brok
 pub record Made : Type 0 where
   pub call : Call
   pub hands : List ℕ
+
+-- the call that a command of a run stands for. A code that is no command's is no kind of insertion either (REFERENCE, Run)
+unfoldable pub callOf : Command → Call
+callOf c =
+    cond (eqb (c .code) 1) (Connect (c .first) (c .second))
+    (cond (eqb (c .code) 2) (BreakPrev (c .first))
+    (cond (eqb (c .code) 3) (BreakNext (c .first))
+    (cond (eqb (c .code) 4) (ExchangeNext (c .first) (c .second))
+    (cond (eqb (c .code) 5) (Remove (c .first)) (Insert (c .code) (c .first) (c .second) (c .payload))))))
 
 unfoldable pub repliesTo : ℕ → ℕ → List Made → Arena → List Reply
 repliesTo limit top [] a = []

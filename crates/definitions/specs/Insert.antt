@@ -101,8 +101,8 @@ headerAfter a =
     let more = withLinkCount (linkCount a + 1) (a .header) in
     cond (eqb (root a) 0) (withStackLength (stackLength a + 1) more) (withRoot (rootAfter a) more)
 
--- the arena with a link of payload x between u and v, in the new slot and of the current generation. The new slot's words are written before the
--- neighbours', so that a link between itself and itself is closed alone (REFERENCE, Insert)
+-- the arena with a link of payload x between u and v, in the new slot and of the current generation: the new slot names u and v, and they name it
+-- (REFERENCE, Insert)
 unfoldable pub inserted : Arena → ℕ → ℕ → ℕ → Arena
 inserted a u v x =
     let t = newSlot a in

@@ -59,6 +59,10 @@ filled = arena (0 ∷ 1 ∷ 2 ∷ []) (2 ∷ 3 ∷ 0 ∷ []) (5 ∷ 6 ∷ 5 ∷ 
 abbrev apart : Arena
 apart = arena (0 ∷ 9 ∷ 0 ∷ 9 ∷ []) (0 ∷ 2 ∷ 0 ∷ 2 ∷ []) (5 ∷ 0 ∷ 5 ∷ 0 ∷ []) (11 ∷ 9 ∷ 13 ∷ 9 ∷ []) (4 ∷ 2 ∷ 4 ∷ 6 ∷ [])
 
+-- the open chain 1→3 with the free slot 2, and two slots after the stack
+abbrev roomy : Arena
+roomy = arena (0 ∷ 9 ∷ 1 ∷ 9 ∷ 9 ∷ []) (3 ∷ 2 ∷ 0 ∷ 9 ∷ 9 ∷ []) (5 ∷ 0 ∷ 5 ∷ 9 ∷ 9 ∷ []) (11 ∷ 9 ∷ 13 ∷ 9 ∷ 9 ∷ []) (3 ∷ 2 ∷ 2 ∷ 6 ∷ [])
+
 -- the table
 unfoldable pub rows : List Row
 rows =
@@ -86,6 +90,8 @@ rows =
     row gapped (among 16 (pointer 1 5) (pointer 3 5) ∷ []) at-two filled ∷
     -- two lone links are joined around the root, which leads on to the next free slot
     row apart (among 18 (pointer 3 5) (pointer 1 5) ∷ []) ((0 ∷ 4 ∷ 6 ∷ []) ∷ []) (arena (4 ∷ 9 ∷ 0 ∷ 3 ∷ []) (0 ∷ 2 ∷ 4 ∷ 1 ∷ []) (5 ∷ 0 ∷ 5 ∷ 6 ∷ []) (11 ∷ 9 ∷ 13 ∷ 70 ∷ []) (4 ∷ 3 ∷ 2 ∷ 6 ∷ [])) ∷
+    -- the root is taken although there is room after the stack, and then one slot of that room, whose other slot is not written
+    row roomy (to 12 (pointer 1 5) ∷ alone 6 ∷ []) (((0 ∷ 2 ∷ 6 ∷ []) ∷ (0 ∷ 4 ∷ 6 ∷ []) ∷ [])) (arena (0 ∷ 1 ∷ 2 ∷ 0 ∷ 9 ∷ []) (2 ∷ 3 ∷ 0 ∷ 0 ∷ 9 ∷ []) (5 ∷ 6 ∷ 5 ∷ 6 ∷ 9 ∷ []) (11 ∷ 70 ∷ 13 ∷ 70 ∷ 9 ∷ []) (4 ∷ 4 ∷ 0 ∷ 6 ∷ [])) ∷
     -- 17: a pointer of another generation, slot 0, a slot above the stack, a free slot
     row gapped (to 12 (pointer 1 6) ∷ []) (refused 17) gapped ∷
     row gapped (to 14 (pointer 0 0) ∷ []) (refused 17) gapped ∷
@@ -111,8 +117,10 @@ rows =
     row filled (plain (Remove (pointer 1 5)) ∷ plain (Remove (pointer 2 6)) ∷ to 10 (pointer 3 5) ∷ []) ((0 ∷ 0 ∷ 2 ∷ 11 ∷ []) ∷ (0 ∷ 0 ∷ 3 ∷ 70 ∷ []) ∷ (0 ∷ 2 ∷ 8 ∷ []) ∷ []) (arena (0 ∷ 0 ∷ 2 ∷ []) (1 ∷ 3 ∷ 0 ∷ []) (0 ∷ 8 ∷ 5 ∷ []) (0 ∷ 70 ∷ 13 ∷ []) (3 ∷ 2 ∷ 1 ∷ 8 ∷ [])) ∷
     -- at the largest generation nothing overflows
     row (arena (0 ∷ []) (0 ∷ []) (0 ∷ []) (0 ∷ []) (0 ∷ 0 ∷ 0 ∷ 4294967295 ∷ [])) (alone 6 ∷ plain Check ∷ []) ((0 ∷ 1 ∷ 4294967295 ∷ []) ∷ (0 ∷ []) ∷ []) (arena (0 ∷ []) (0 ∷ []) (4294967295 ∷ []) (70 ∷ []) (1 ∷ 1 ∷ 0 ∷ 4294967295 ∷ [])) ∷
-    -- in a run: an insertion, one behind a link that another insertion made, 17 for a slot over 65,535, and 18
+    -- in a run: an insertion, 17 for a slot over 65,535, and 18
     row lone (with (Run (8 ∷ 1 ∷ 5 ∷ 0 ∷ 0 ∷ 70 ∷ 13 ∷ 70000 ∷ 0 ∷ 0 ∷ 0 ∷ 71 ∷ 6 ∷ 0 ∷ 0 ∷ 0 ∷ 0 ∷ 72 ∷ [])) (9 ∷ 9 ∷ 9 ∷ 9 ∷ []) ∷ []) ((0 ∷ 0 ∷ 17 ∷ 18 ∷ 9 ∷ []) ∷ []) behind ∷
+    -- in a run: a bridge by pointers, and then one between the link that it made and its second one, by slots
+    row apart (with (Run (18 ∷ 3 ∷ 5 ∷ 1 ∷ 5 ∷ 70 ∷ 17 ∷ 4 ∷ 0 ∷ 1 ∷ 0 ∷ 71 ∷ [])) (9 ∷ 9 ∷ []) ∷ []) ((0 ∷ 0 ∷ 0 ∷ []) ∷ []) (arena (2 ∷ 4 ∷ 0 ∷ 3 ∷ []) (0 ∷ 1 ∷ 4 ∷ 2 ∷ []) (5 ∷ 6 ∷ 5 ∷ 6 ∷ []) (11 ∷ 71 ∷ 13 ∷ 70 ∷ []) (4 ∷ 4 ∷ 0 ∷ 6 ∷ [])) ∷
     []
 
 pub insertions-hold : map computed rows ≡ map expected rows

@@ -35,7 +35,7 @@ commandAt ws i =
     }
 
 -- one command by its code: connect is 1, the breaks are 2 (prev) and 3 (next), exchange is 4, remove is 5, the kinds of insertion are 6 to 19, and any
--- other code is answered 16. Breaks and remove look at the first pointer alone, and insertions alone at the payload (REFERENCE, Run)
+-- other code is answered 16. Breaks and remove look at the first pointer alone, and only insertions look at the payload (REFERENCE, Run)
 unfoldable pub apply : ℕ → Arena → Command → Reply
 apply top a c =
     cond (eqb (c .code) 1) (connect a (c .first) (c .second) [])

@@ -5,7 +5,7 @@ use Prim.Native.Nat.{ℕ, _≤_, _<_, _/_, _%_}
 use mathlib.Core.Path.{_≡_, refl, sym, ap, subst, _∙_}
 use mathlib.Core.Logic.{_⊎_, inl, inr, _↔_}
 use mathlib.Core.Bool.{Bool}
-use mathlib.Core.List.{List, [], _∷_}
+use mathlib.Core.List.{List, [], _∷_, map}
 use native.Mathlib.Omega.{arith}
 use lib.ListN.{length, take}
 use lib.Dec.{eqb}
@@ -17,7 +17,7 @@ use Rattle.definitions.specs.Read.{Pointer}
 use Rattle.definitions.specs.Walk.{walkFrom}
 use Rattle.definitions.specs.Insert.{InsertKind, nowhere, placeOf, newSlot, kind, kindOf}
 use Rattle.definitions.specs.Run.{Command, commandWords, commandsOf, apply, applied, answersOf}
-use Rattle.definitions.specs.Calls.{Call, Check, Insert, Drain, Run, CompressCanonical, accepted, replyTo, Answers, Made, arenaAfter}
+use Rattle.definitions.specs.Calls.{Call, Check, Insert, Drain, Run, CompressCanonical, accepted, replyTo, Answers, Made, repliesTo, arenaAfter}
 use Rattle.definitions.proofs.Tests.{by-test}
 use Rattle.definitions.proofs.Count.{In, in-cases, not-in-nil}
 use Rattle.statements.specs.Chains.{Chain, pieces}
@@ -31,7 +31,7 @@ use Rattle.drains.proofs.DrainsChain.{done-drain-takes-the-chain}
 use Rattle.demand3.proofs.Demand3.{demand-3, demand-3-at}
 use Rattle.every_call.proofs.RefusalChangesNothing.{refusal-changes-nothing}
 use Rattle.every_call.proofs.EveryCallKeeps.{every-call-keeps, any-calls-keep, inside-a-run}
-use Rattle.every_call.proofs.RunIsFold.{one-command, reply-of-a-run}
+use Rattle.every_call.proofs.RunIsFold.{one-command, reply-of-a-run, callsOf, run-by-calls}
 use Rattle.every_call.proofs.Insertions.{done-insert-places, seventeen-exactly-by-call, full-exactly-by-call}
 
 module _ (limit top : ℕ) (a : Arena) (l : List ℕ) (broken : ℕ) (r : Reply) where
@@ -83,6 +83,14 @@ module _ (limit top : ℕ) (a : Arena) (l : List ℕ) (broken : ℕ) (r : Reply)
   pub run-by-contract : (ws : List ℕ) → Answers limit top (Run ws) a l broken r → verdict limit a ≡ 0 → length ws % commandWords ≡ 0 → length ws / commandWords ≤ length l →
       r ≡ reply 0 [] (applied top a (commandsOf ws)) (written (answersOf top a (commandsOf ws)) l)
   run-by-contract ws p passes whole room = p .same ∙ reply-of-a-run limit top a ws l passes whole room
+
+  -- and what it leaves and answers is what the calls of its commands would, made one after the other
+  pub run-calls-by-contract : (ws : List ℕ) → Answers limit top (Run ws) a l broken r → verdict limit a ≡ 0 → length ws % commandWords ≡ 0 → length ws / commandWords ≤ length l →
+      (r .arena ≡ arenaAfter limit top (callsOf (commandsOf ws)) a) × (r .back ≡ written (map (λ (s : Reply). s .number) (repliesTo limit top (callsOf (commandsOf ws)) a)) l)
+  run-calls-by-contract ws p passes whole room =
+      let same = run-by-contract ws p passes whole room in
+      let calls = run-by-calls limit top (commandsOf ws) a passes in
+      (ap (λ (s : Reply). s .arena) same ∙ calls .0, ap (λ (s : Reply). s .back) same ∙ ap (λ (w : List ℕ). written w l) (calls .1))
 
   -- the check answers none but the eleven rules
   pub check-by-contract : Answers limit top Check a l broken r → r .number ≤ 11

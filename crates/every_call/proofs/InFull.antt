@@ -18,7 +18,7 @@ use Rattle.definitions.specs.Remove.{drain}
 use Rattle.definitions.specs.Insert.{InsertKind, nowhere, placeOf, newSlot, insert, kind, unknown, kindOf}
 use Rattle.definitions.specs.Run.{Command, commandsOf, apply, applied, answersOf}
 use Rattle.definitions.specs.Compress.{compressGeneration, relocate, compressWith, laidOut, canonicalArena, compressCanonical}
-use Rattle.definitions.specs.Calls.{Call, Made, Check, WalkStart, WalkStep, Insert, Drain, Run, CompressWith, CompressCanonical, accepted, replyTo, arenaAfter, Answers}
+use Rattle.definitions.specs.Calls.{Call, Made, Check, WalkStart, WalkStep, Insert, Drain, Run, CompressWith, CompressCanonical, accepted, replyTo, callOf, repliesTo, arenaAfter, Answers}
 use Rattle.definitions.proofs.Tests.{by-test, not-eq}
 use Rattle.statements.specs.Chains.{IsOpen, IsClosed, Chain, Alike, Listing, OnOneChain, Renaming, pieces, replaced, Paired, HoldTheSame}
 use Rattle.statements.specs.Demand3.{Agree, Further, made, Compressed, OfOne, Unmoved, Demand3}
@@ -52,10 +52,10 @@ use Rattle.demand3.proofs.Demand3.{demand-3, demand-3-at}
 use Rattle.every_call.proofs.RefusalChangesNothing.{refusal-changes-nothing}
 use Rattle.every_call.proofs.EveryCallKeeps.{every-call-keeps, any-calls-keep, inside-a-run}
 use Rattle.every_call.proofs.CapacityStays.{capacity-stays, capacity-after-calls}
-use Rattle.every_call.proofs.RunIsFold.{reply-of-a-run, one-command}
+use Rattle.every_call.proofs.RunIsFold.{reply-of-a-run, command-by-call, run-by-calls, one-command}
 use Rattle.every_call.proofs.Insertions.{insert-by-call, no-such-kind, sixteen-exactly, seventeen-exactly-by-call, full-exactly-by-call, done-insert-places, insertion-answers, grown-from-empty}
 use Rattle.every_call.proofs.ContractDetermines.{contract-determines, contract-can-be-kept, programs-agree}
-use Rattle.every_call.proofs.ByContract.{refusal-by-contract, kept-by-contract, drain-by-contract, insert-by-contract, seventeen-by-contract, full-by-contract, demand-3-by-contract, demand-3-of-the-port, run-by-contract, check-by-contract, well-formed-after-calls, well-formed-after-commands, answers-are-words}
+use Rattle.every_call.proofs.ByContract.{refusal-by-contract, kept-by-contract, drain-by-contract, insert-by-contract, seventeen-by-contract, full-by-contract, demand-3-by-contract, demand-3-of-the-port, run-by-contract, run-calls-by-contract, check-by-contract, well-formed-after-calls, well-formed-after-commands, answers-are-words}
 
 -- ---- the check
 
@@ -108,6 +108,14 @@ capacity-after-calls-in-full = capacity-after-calls
 pub reply-of-a-run-in-full : (limit top : ℕ) (a : Arena) (ws answers : List ℕ) → verdict limit a ≡ 0 → length ws % 6 ≡ 0 → length ws / 6 ≤ length answers
     → replyTo limit top (Run ws) a answers ≡ reply 0 [] (applied top a (commandsOf ws)) (written (answersOf top a (commandsOf ws)) answers)
 reply-of-a-run-in-full = reply-of-a-run
+
+pub command-by-call-in-full : (limit top : ℕ) (a : Arena) (c : Command) → verdict limit a ≡ 0 → apply top a c ≡ replyTo limit top (callOf c) a []
+command-by-call-in-full = command-by-call
+
+pub run-by-calls-in-full : (limit top : ℕ) (cs : List Command) (a : Arena) → verdict limit a ≡ 0 →
+    (applied top a cs ≡ arenaAfter limit top (map (λ (c : Command). record { call = callOf c; hands = [] }) cs) a)
+    × (answersOf top a cs ≡ map (λ (r : Reply). r .number) (repliesTo limit top (map (λ (c : Command). record { call = callOf c; hands = [] }) cs) a))
+run-by-calls-in-full = run-by-calls
 
 pub one-command-in-full : (top : ℕ) (a : Arena) (c : Command) → OneCommand a (apply top a c)
 one-command-in-full = one-command
@@ -375,6 +383,11 @@ module _ (limit top : ℕ) (a : Arena) (l : List ℕ) (broken : ℕ) (r : Reply)
   pub run-by-contract-in-full : (ws : List ℕ) → Answers limit top (Run ws) a l broken r → verdict limit a ≡ 0 → length ws % 6 ≡ 0 → length ws / 6 ≤ length l →
       r ≡ reply 0 [] (applied top a (commandsOf ws)) (written (answersOf top a (commandsOf ws)) l)
   run-by-contract-in-full = run-by-contract limit top a l broken r
+
+  pub run-calls-by-contract-in-full : (ws : List ℕ) → Answers limit top (Run ws) a l broken r → verdict limit a ≡ 0 → length ws % 6 ≡ 0 → length ws / 6 ≤ length l →
+      (r .arena ≡ arenaAfter limit top (map (λ (c : Command). record { call = callOf c; hands = [] }) (commandsOf ws)) a)
+      × (r .back ≡ written (map (λ (s : Reply). s .number) (repliesTo limit top (map (λ (c : Command). record { call = callOf c; hands = [] }) (commandsOf ws)) a)) l)
+  run-calls-by-contract-in-full = run-calls-by-contract limit top a l broken r
 
   pub check-by-contract-in-full : Answers limit top Check a l broken r → r .number ≤ 11
   check-by-contract-in-full = check-by-contract limit top a l broken r

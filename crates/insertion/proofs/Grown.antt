@@ -3,11 +3,10 @@
 use Prim.Native.Nat.{ℕ}
 use mathlib.Core.Path.{_≡_, refl, sym, ap, subst, _∙_}
 use mathlib.Core.Logic.{inl, inr}
-use mathlib.Core.Bool.{true≢false}
 use mathlib.Core.List.{List, [], _∷_, _++_, append-assoc}
 use native.Mathlib.Omega.{arith}
 use Rattle.definitions.specs.Columns.{at, count, firstOr, lastOr, Linked}
-use Rattle.definitions.specs.Arena.{Arena, isLink}
+use Rattle.definitions.specs.Arena.{Arena}
 use Rattle.statements.specs.Chains.{Kind, opened, closed, IsOpen, IsClosed, IsChain, Like}
 use Rattle.definitions.proofs.Slots.{count-append, count-here}
 use Rattle.definitions.proofs.Count.{In, Once, in-here, in-there, in-left, in-right, in-cases, in-append, once-cons, once-one, not-in-nil}
@@ -15,7 +14,7 @@ use Rattle.definitions.proofs.Linked.{first-append, in-first, in-last, linked-j
 use Rattle.chains.proofs.Runs.{linked-nil, linked-cons, linked-one, linked-first, linked-rest}
 use Rattle.chains.proofs.Links.{Link, AllLinks, DoublyLinked, link-nonzero, prev-of-next, links-one}
 use Rattle.chains.proofs.OneChain.{chain-run, chain-links, run-next, run-prev, one-chain}
-use Rattle.kept.proofs.PutIn.{PutIn}
+use Rattle.kept.proofs.PutIn.{PutIn, off-new}
 use Rattle.insertion.proofs.Chains.{by-last, agree-chain, turned, chain-once}
 
 some-cons : (x : ℕ) (xs : List ℕ) → (x ∷ xs ≡ []) → ⊥
@@ -32,17 +31,14 @@ module _ (a b : Arena) (la : DoublyLinked a) (lb : DoublyLinked b) (t u v : ℕ)
   abbrev M : ℕ → ℕ
   M s = at (b .next) s
 
-  off-t : (s : ℕ) → Link a s → s ≡ t → ⊥
-  off-t s l e = true≢false (sym l ∙ ap (isLink a) e ∙ p .fresh)
-
   no-t : (xs : List ℕ) → AllLinks a xs → In t xs → ⊥
-  no-t xs h i = off-t t (h t i) refl
+  no-t xs h i = off-new p t (h t i) refl
 
   same-next : (s : ℕ) → Link a s → (s ≡ u → ⊥) → N s ≡ M s
-  same-next s l d = sym (p .next .other s (off-t s l) d)
+  same-next s l d = sym (p .next .other s (off-new p s l) d)
 
   same-prev : (s : ℕ) → Link a s → (s ≡ v → ⊥) → at (b .prev) s ≡ at (a .prev) s
-  same-prev s l d = p .prev .other s (off-t s l) d
+  same-prev s l d = p .prev .other s (off-new p s l) d
 
   -- ---- chains without u and v stay, and those without t were there
 

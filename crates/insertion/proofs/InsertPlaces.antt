@@ -1,19 +1,19 @@
 -- An insertion that is done makes the chain that its kind says, and leaves every other chain and link as it was. Assumes nothing.
 use Prim.Native.Nat.{ℕ, _≤_}
-use mathlib.Core.Path.{_≡_, refl, sym, ap, _∙_}
-use mathlib.Core.Bool.{false, true≢false}
+use mathlib.Core.Path.{_≡_, refl}
+use mathlib.Core.Bool.{false}
 use mathlib.Core.List.{List, [], _∷_}
 use native.Mathlib.Omega.{arith}
 use Rattle.definitions.specs.Columns.{at}
-use Rattle.definitions.specs.Arena.{Arena, capacity, current, isLink}
+use Rattle.definitions.specs.Arena.{Arena, capacity, current}
 use Rattle.definitions.specs.Check.{WellFormed, verdict}
 use Rattle.definitions.proofs.Tests.{by-test}
 use Rattle.definitions.proofs.Columns.{length-put, at-put-same, at-put-other}
 use Rattle.well_formed.proofs.WellFormed.{well-formed-if-passes}
-use Rattle.chains.proofs.Links.{Link, link-nonzero, link-within, well-formed-linked}
+use Rattle.chains.proofs.Links.{link-nonzero, link-within, well-formed-linked}
 use Rattle.definitions.specs.Insert.{InsertKind, Place, nowhere, between, placeOf, newSlot, isFull, inserted, insertAt, insert}
 use Rattle.statements.specs.InsertPlaces.{InsertPlaces}
-use Rattle.kept.proofs.PutIn.{PutIn, Fits, fits-if-placed, gap-of}
+use Rattle.kept.proofs.PutIn.{PutIn, off-new, Fits, fits-if-placed, gap-of}
 use Rattle.kept.proofs.Insertion.{inserted-keeps}
 use Rattle.insertion.proofs.Places.{makes-one, made-is, others-stay, all-chains}
 
@@ -32,15 +32,14 @@ module _ (limit : ℕ) (a : Arena) (ok : WellFormed limit a) (k : InsertKind) (x
       let lb = well-formed-linked kept in
       let some = link-nonzero b t (in-place .new) in
       let fits : t ≤ capacity b = omega (arith, link-within b t (in-place .new), kept .within) in
-      let off : (s : ℕ) → Link a s → s ≡ t → ⊥ = λ s l e. true≢false (sym l ∙ ap (isLink a) e ∙ in-place .fresh) in
       record {
         made = makes-one a la t u v k f;
         makes = made-is a b la lb t u v in-place k f;
         stay = others-stay a b la lb t u v in-place k f;
         all = all-chains a b la lb t u v in-place k f;
         links = in-place .stays;
-        generations = λ s l. at-put-other (a .generation) t s (current a) (off s l);
-        payloads = λ s l. at-put-other (a .payload) t s x (off s l);
+        generations = λ s l. at-put-other (a .generation) t s (current a) (off-new in-place s l);
+        payloads = λ s l. at-put-other (a .payload) t s x (off-new in-place s l);
         fresh = in-place .fresh;
         new = in-place .new;
         only = in-place .was;

@@ -3,12 +3,11 @@
 use Prim.Native.Nat.{ℕ, _≤_}
 use mathlib.Core.Path.{_≡_, refl, sym, ap, _∙_}
 use mathlib.Core.Logic.{_⊎_, inl, inr}
-use mathlib.Core.Bool.{true≢false}
 use mathlib.Core.List.{List, [], _∷_, _++_}
 use native.Mathlib.Omega.{arith}
 use native.Mathlib.Decide.{decLe}
 use Rattle.definitions.specs.Columns.{at, count, firstOr, lastOr}
-use Rattle.definitions.specs.Arena.{Arena, isLink}
+use Rattle.definitions.specs.Arena.{Arena}
 use Rattle.statements.specs.Chains.{Kind, opened, closed, IsOpen, Chain, IsChain, Like, Alike}
 use Rattle.definitions.proofs.Count.{In, in-here, in-there, in-right, none-of}
 use Rattle.definitions.proofs.Linked.{first-append, last-append, linked-split}
@@ -17,7 +16,7 @@ use Rattle.chains.proofs.Links.{Link, DoublyLinked, link-nonzero}
 use Rattle.chains.proofs.OneChain.{chain-run, chain-links, run-next, run-prev, one-chain}
 use Rattle.definitions.specs.Insert.{Named, slotOf, InsertKind, Disconnected, SingleLinkCyclic, ChainEnd, ChainStart, NextTo, PrevTo, AtInterlink, Bridge}
 use Rattle.statements.specs.InsertPlaces.{chain, following, Makes, Apart}
-use Rattle.kept.proofs.PutIn.{PutIn, Fits}
+use Rattle.kept.proofs.PutIn.{PutIn, off-new, Fits}
 use Rattle.insertion.proofs.Chains.{on-chain, end-chain, start-chain}
 use Rattle.insertion.proofs.Grown.{stays-chain, was-chain, behind, alone, alone-closed, in-front, before, joins, closes}
 
@@ -110,7 +109,7 @@ module _ (a b : Arena) (la : DoublyLinked a) (lb : DoublyLinked b) (t u v : ℕ)
     not-zero s z i = link-nonzero a s (chain-links a (c .kind) (c .members) h s i) (sym z)
 
     not-new : (s : ℕ) → t ≡ s → In s (c .members) → ⊥
-    not-new s e i = true≢false (sym (chain-links a (c .kind) (c .members) h s i) ∙ ap (isLink a) (sym e) ∙ put .fresh)
+    not-new s e i = off-new put s (chain-links a (c .kind) (c .members) h s i) (sym e)
 
     not-named : (n s : ℕ) → n ≡ s → count n (c .members) ≡ 0 → In s (c .members) → ⊥
     not-named n s e z i = omega (arith, rw (← e) at i)

@@ -1,8 +1,8 @@
 -- Where a link may go, and what it does there: the one fact that all kinds share. Assumes nothing.
 use Prim.Native.Nat.{ℕ, _≤_}
-use mathlib.Core.Path.{_≡_, refl, sym}
+use mathlib.Core.Path.{_≡_, refl, sym, ap, _∙_}
 use mathlib.Core.Logic.{_⊎_, inl, inr}
-use mathlib.Core.Bool.{Bool, true, false, _&&_}
+use mathlib.Core.Bool.{Bool, true, false, _&&_, true≢false}
 use native.Mathlib.Omega.{arith}
 use native.Mathlib.Decide.{ℕ-discrete}
 use lib.Dec.{eqb}
@@ -46,6 +46,10 @@ pub record PutIn (a b : Arena) (t u v : ℕ) : Type 0 where
   pub was : (x : ℕ) → Link b x → (x ≡ t → ⊥) → Link a x
   pub prev : Column (a .prev) (b .prev) t u v
   pub next : Column (a .next) (b .next) t v u
+
+-- no old link is the new one
+pub off-new : {a b : Arena} {t u v : ℕ} → PutIn a b t u v → (s : ℕ) → Link a s → s ≡ t → ⊥
+off-new {a = a} p s l e = true≢false (sym l ∙ ap (isLink a) e ∙ p .fresh)
 
 pub placed : (fits : Bool) (u v s t : ℕ) → placeIf fits u v ≡ between s t → (fits ≡ true) × (u ≡ s) × (v ≡ t)
 unfolding placeIf

@@ -20,7 +20,7 @@ use oracle::compare::{Outcome, crate_number, crate_outcome, crate_text_found, mo
 use oracle::header::GENERATION;
 use oracle::random::{self, Random};
 use oracle::words::CALLS_IN_ALL;
-use oracle::{Arena, COMMAND_WORDS, Call, Reading, Reply, cases, kind};
+use oracle::{Arena, COMMAND_WORDS, Call, Reading, Reply, cases, kind, model};
 
 /// The programs, each with the codes of its calls.
 const PROGRAMS: [(&str, &[usize]); 6] = [
@@ -159,8 +159,8 @@ enum Mark {
     Room,
     /// An insertion of this kind, and what there is for it
     Kind(u32, ToTake),
-    /// The run has a command of this code with this answer
-    Command(u32, u32),
+    /// The run has a command of this code with this answer, and what there is for it if it is an insertion
+    Command(u32, u32, Option<ToTake>),
 }
 
 /// Which slot there is for an insertion.
@@ -230,9 +230,16 @@ fn marks_of_kind(before: &Arena, after: &Outcome) -> Vec<Mark> {
     match &after.call {
         Call::Insert(kind, ..) if kind::ALL.contains(kind) => vec![Mark::Kind(*kind, ToTake::of(before))],
         Call::Run(words, answers) if after.reply.number == 0 => {
-            let code = |command: &[u32]| if command[0] <= kind::BRIDGE_INX { command[0] } else { 0 };
-            let commands = words.chunks_exact(COMMAND_WORDS).map(code);
-            commands.zip(answers).map(|(code, &answer)| Mark::Command(code, answer)).collect()
+            let mut now = before.clone();
+            let commands = words.chunks_exact(COMMAND_WORDS).zip(answers);
+            commands
+                .map(|(command, &answer)| {
+                    let code = if command[0] <= kind::BRIDGE_INX { command[0] } else { 0 };
+                    let to_take = kind::ALL.contains(&code).then(|| ToTake::of(&now));
+                    model::apply(&mut now, command);
+                    Mark::Command(code, answer, to_take)
+                })
+                .collect()
         }
         _ => vec![],
     }
@@ -393,8 +400,8 @@ mod tests {
         assert!(stored.len() >= 2_000);
     }
 
-    /// Every kind of an insertion is there, done on each slot that there can be for it, refused with 18 and, if it names
-    /// links, with 17; and the runs have every command with every answer that it can have.
+    /// Every kind of an insertion is there, by its call and in a run, done on each slot that there can be for it, refused with
+    /// 18 and, if it names links, with 17; and the runs have every other command with every answer that it can have.
     #[test]
     fn stored_insertions_and_commands_are_of_every_kind() {
         let mut found = BTreeSet::new();
@@ -407,23 +414,27 @@ mod tests {
             }
         }
         for kind in kind::ALL {
-            let mut wanted = vec![(18, Mark::Kind(kind, ToTake::Nothing))];
+            let mut wanted = vec![];
+            let mut want = |number, to_take| {
+                wanted.push((number, Mark::Kind(kind, to_take)));
+                wanted.push((0, Mark::Command(kind, number, Some(to_take))));
+            };
+            want(18, ToTake::Nothing);
             for to_take in [ToTake::Root, ToTake::LastFree, ToTake::BehindStack] {
-                wanted.push((0, Mark::Kind(kind, to_take)));
+                want(0, to_take);
             }
-            wanted.extend([0, 18].map(|answer| (0, Mark::Command(kind, answer))));
             if kind::names(kind) > 0 {
-                wanted.push((17, Mark::Kind(kind, ToTake::Nothing)));
-                wanted.push((17, Mark::Kind(kind, ToTake::BehindStack)));
-                wanted.push((0, Mark::Command(kind, 17)));
+                want(17, ToTake::Nothing);
+                want(17, ToTake::BehindStack);
             }
             assert!(wanted.iter().all(|mark| found.contains(mark)), "kind {kind}");
         }
         for (code, answers) in [(0, [16].as_slice()), (5, &[0, 12, 100])] {
-            assert!(answers.iter().all(|&answer| found.contains(&(0, Mark::Command(code, answer)))));
+            assert!(answers.iter().all(|&answer| found.contains(&(0, Mark::Command(code, answer, None)))));
         }
         for code in 1..=4 {
-            assert!([0, 12, 13].iter().all(|&answer| found.contains(&(0, Mark::Command(code, answer)))));
+            let mark = |answer| (0, Mark::Command(code, answer, None));
+            assert!([0, 12, 13].iter().all(|&answer| found.contains(&mark(answer))));
         }
     }
 

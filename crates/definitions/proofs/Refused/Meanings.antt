@@ -2,14 +2,16 @@
 -- other, and the arena that a contract speaks of at entry and at exit.
 use Prim.Native.Nat.{ℕ, suc, _+_, _-_, _*_, _/_, _≤_}
 use mathlib.Core.Path.{_≡_, refl}
-use mathlib.Core.Logic.{_⊎_, _↔_}
+use mathlib.Core.Logic.{_⊎_, inl, inr, _↔_}
 use mathlib.Core.Bool.{Bool, true, false, cond, not, _&&_, _||_}
 use mathlib.Core.List.{List, [], _∷_, _++_, map}
-use lib.ListN.{length, getD, drop, replicate}
+use lib.ListN.{length, getD, set, drop, replicate}
+use native.Mathlib.Omega.{arith}
 use lib.Dec.{eqb, leb, ltb}
+use borrow.Author.Tests.{ne-eqb}
 use denote.Ref.{now}
 use denote.Triple.Both.{Both}
-use Rattle.definitions.specs.Columns.{at, count, firstOr, lastOr, Linked, slotsFrom, keep, written, settled}
+use Rattle.definitions.specs.Columns.{at, put, count, firstOr, lastOr, Linked, slotsFrom, keep, written, settled}
 use Rattle.definitions.specs.Arena.{Arena, arena, capacity, capacityLimit, largestGeneration, stackLength, linkCount, root, current, allocated, linkSlots, freeSlots, isLink}
 use Rattle.definitions.specs.Check.{FailsAt, namesBack, neighboursFine}
 use Rattle.definitions.specs.Reply.{reply}
@@ -38,11 +40,17 @@ use Rattle.definitions.specs.Insert.{
   placeOf,
   newSlot,
   isFull,
+  rootAfter,
+  headerAfter,
+  inserted,
+  insertCoded,
 }
-use Rattle.definitions.specs.Run.{commandAt, commandsOf}
+use Rattle.definitions.specs.Edit.{connect, breakPrev, breakNext, exchangeNext}
+use Rattle.definitions.specs.Remove.{remove}
+use Rattle.definitions.specs.Run.{Command, commandAt, commandsOf, apply}
 use Rattle.definitions.specs.Compress.{place, relocate}
 use Rattle.definitions.specs.Report.{itemSlots}
-use Rattle.definitions.specs.Calls.{Made, replyTo, repliesTo, arenaAfter}
+use Rattle.definitions.specs.Calls.{Connect, BreakPrev, BreakNext, ExchangeNext, Remove, Insert, Made, replyTo, callOf, repliesTo, arenaAfter}
 use Rattle.definitions.specs.Lent.{Column, atEntry, atExit}
 use Rattle.definitions.proofs.Codes.{no-kind}
 
@@ -209,7 +217,53 @@ pub is-full-whole : (a : Arena) → isFull a ≡ eqb (getD (a .header) 2 0) 0 &&
 unfolding isFull
 is-full-whole a = refl
 
--- ---- commands by their words, and links in another order
+-- the words that an insertion leaves: of each column those of the new slot and its neighbours, of the header three
+pub inserted-whole : (a : Arena) (u v x : ℕ) →
+    (inserted a u v x .prev ≡ put (put (a .prev) (newSlot a) u) v (newSlot a))
+    × (inserted a u v x .next ≡ put (put (a .next) (newSlot a) v) u (newSlot a))
+    × (inserted a u v x .generation ≡ put (a .generation) (newSlot a) (getD (a .header) 3 0))
+    × (inserted a u v x .payload ≡ put (a .payload) (newSlot a) x)
+    × (inserted a u v x .header
+    ≡ cond (eqb (root a) 0) (set (set (a .header) 1 (linkCount a + 1)) 0 (stackLength a + 1))
+    (set (set (a .header) 1 (linkCount a + 1)) 2 (cond (eqb (at (a .next) (root a)) (root a)) 0 (at (a .next) (root a)))))
+unfolding inserted headerAfter rootAfter
+inserted-whole a u v x = (refl, refl, refl, refl, refl)
+
+-- ---- commands by their codes and by their words, and links in another order
+
+abbrev command : ℕ → Pointer → Pointer → ℕ → Command
+command k p q x = record { code = k; first = p; second = q; payload = x }
+
+-- a code that is none of 1 to 5
+no-edit : (k j : ℕ) → (k ≡ 0) ⊎ (6 ≤ k) → 1 ≤ j → j ≤ 5 → eqb k j ≡ false
+no-edit k j (inl zero) some low = ne-eqb k j (λ e. omega arith)
+no-edit k j (inr high) some low = ne-eqb k j (λ e. omega arith)
+
+abbrev NoEdit : ℕ → Type 0
+NoEdit k = (eqb k 1 ≡ false) × (eqb k 2 ≡ false) × (eqb k 3 ≡ false) × (eqb k 4 ≡ false) × (eqb k 5 ≡ false)
+
+none-of-them : (k : ℕ) → (k ≡ 0) ⊎ (6 ≤ k) → NoEdit k
+none-of-them k h = (no-edit k 1 h (omega arith) (omega arith), no-edit k 2 h (omega arith) (omega arith), no-edit k 3 h (omega arith) (omega arith), no-edit k 4 h (omega arith) (omega arith), no-edit k 5 h (omega arith) (omega arith))
+
+pub apply-whole : (top : ℕ) (a : Arena) (p q : Pointer) (x : ℕ) →
+    (apply top a (command 1 p q x) ≡ connect a p q [])
+    × (apply top a (command 2 p q x) ≡ breakPrev a p [])
+    × (apply top a (command 3 p q x) ≡ breakNext a p [])
+    × (apply top a (command 4 p q x) ≡ exchangeNext a p q [])
+    × (apply top a (command 5 p q x) ≡ remove top a p [])
+    × ((k : ℕ) → (k ≡ 0) ⊎ (6 ≤ k) → apply top a (command k p q x) ≡ insertCoded a (kindOf k p q) x [])
+unfolding apply
+apply-whole top a p q x = (refl, refl, refl, refl, refl, λ k h. let n = none-of-them k h in rw (n .0, n .1, n .2, n .3, n .4) refl)
+
+pub call-of-whole : (p q : Pointer) (x : ℕ) →
+    (callOf (command 1 p q x) ≡ Connect p q)
+    × (callOf (command 2 p q x) ≡ BreakPrev p)
+    × (callOf (command 3 p q x) ≡ BreakNext p)
+    × (callOf (command 4 p q x) ≡ ExchangeNext p q)
+    × (callOf (command 5 p q x) ≡ Remove p)
+    × ((k : ℕ) → (k ≡ 0) ⊎ (6 ≤ k) → callOf (command k p q x) ≡ Insert k p q x)
+unfolding callOf
+call-of-whole p q x = (refl, refl, refl, refl, refl, λ k h. let n = none-of-them k h in rw (n .0, n .1, n .2, n .3, n .4) refl)
 
 pub commands-of-whole : (ws : List ℕ) → commandsOf ws ≡ map (commandAt ws) (slotsFrom 0 (length ws / 6))
 commands-of-whole ws = refl

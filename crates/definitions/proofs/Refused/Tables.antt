@@ -29,7 +29,7 @@ pub corners-hold-whole : (length cases.corners ≡ 19) × (map answered cases.co
 unfolding cases.corners
 corners-hold-whole = (refl, cases.corners-hold)
 
-pub insertions-hold-whole : (length insertions.rows ≡ 41) × (map answered insertions.rows ≡ map stored insertions.rows)
+pub insertions-hold-whole : (length insertions.rows ≡ 43) × (map answered insertions.rows ≡ map stored insertions.rows)
 unfolding insertions.rows
 insertions-hold-whole = (refl, insertions.insertions-hold)
 
