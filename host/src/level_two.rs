@@ -88,8 +88,8 @@ impl ArenaMut<'_> {
     ///
     /// # Errors
     ///
-    /// 1 to 11 as `Arena::check`, then 17 if what the kind asks does not hold, a stale pointer included, then 18 if every slot
-    /// of the columns holds a link.
+    /// 1 to 11 as `Arena::check`, then 17 if a pointer of the kind is stale or what it asks besides does not hold, then 18 if
+    /// every slot of the columns holds a link.
     pub fn insert(&mut self, kind: LinkInsertKind, payload: u32) -> Result<Ptr, Refusal> {
         let [p, q] = kind.pointers();
         let answer = call!(chain_arena_insert(

@@ -594,7 +594,7 @@ mod level_two {
     }
 
     #[test]
-    fn there_is_no_room_only_where_the_stack_fills_the_capacity_and_no_slot_is_free() {
+    fn there_is_no_room_only_where_every_slot_of_the_columns_holds_a_link() {
         // 1 -> 2
         let full = OwnedArena {
             prev: vec![0, 1],

@@ -69,13 +69,13 @@ pub const SECTIONS: [Section; 18] = [
     },
     Section {
         name: "edits",
-        what: "every edit but insertion with every pair of pointers on every small arena",
+        what: "on every small arena all edits but insertion, at all pairs of pointers",
         numbers: &[0, 12, 13, 14, 15, 16, 100],
         jobs: |form| every(form.of(4, 5), |a, found| cases::each_edit(a, found)),
     },
     Section {
         name: "insertions",
-        what: "every kind of insertion with every pair of pointers on every small arena, with room for 0, 1 and 2 links",
+        what: "each small arena with room for none, one or two more links: all kinds of insertion at all pairs of pointers",
         numbers: &[0, 16, 17, 18],
         jobs: |form| insertions(form.of(4, 5)),
     },
