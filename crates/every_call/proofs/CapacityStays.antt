@@ -1,5 +1,6 @@
--- No call makes the columns longer or shorter: `capacity-stays` for every call, accepted or refused, and `capacity-after-calls` for any list of calls. Edits write words of slots, and the
--- other calls fill a column up to the stack and leave the rest of it. The other columns are as long as prev wherever the check passes. Assumes nothing.
+-- No call makes the columns longer or shorter: `capacity-stays` for every call, accepted or refused, and `capacity-after-calls` for any list of
+-- calls. Edits write words of slots, and the other calls fill a column up to the stack and leave the rest of it. The other columns are as long as
+-- prev wherever the check passes. Assumes nothing.
 use Prim.Native.Nat.{ℕ, _≤_}
 use mathlib.Core.Path.{_≡_, refl, _∙_}
 use mathlib.Core.Bool.{Bool, true, false, cond}

@@ -1,6 +1,7 @@
--- Insertion by its public call: `done-insert-places` says where the link of an insertion that is done went, `seventeen-exactly-by-call` when it has no place, `full-exactly-by-call` when
--- there is no room, `sixteen-exactly` when there is no such kind, and `insertion-answers` which words an inserting command of a run answers. And arenas that grow:
--- `grown-from-empty` says that an arena without links, after calls of any sort and number, still passes the check, and that its compression keeps to demand 3. Assumes nothing.
+-- Insertion by its public call: `done-insert-places` says where the link of an insertion that is done went, `seventeen-exactly-by-call` when it has
+-- no place, `full-exactly-by-call` when there is no room, `sixteen-exactly` when there is no such kind, and `insertion-answers` which words an
+-- inserting command of a run answers. And arenas that grow: `grown-from-empty` says that an arena without links, after calls of any sort and number,
+-- still passes the check, and that its compression keeps to demand 3. Assumes nothing.
 use Prim.Native.Nat.{ℕ, _≤_}
 use mathlib.Core.Path.{_≡_, refl, sym, ap, _∙_}
 use mathlib.Core.Logic.{_⊎_, inl, inr, _↔_}

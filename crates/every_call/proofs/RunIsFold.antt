@@ -1,6 +1,6 @@
 -- A run is the fold of its commands (REFERENCE, Run): `reply-of-a-run` says what an accepted run replies, `run-goes-on` (crate `kept`) that what
--- comes after some commands is a run on the arena that they left, `run-by-calls` that it does and answers what the calls of its commands would (`command-by-call` of one of them),
--- `one-command` which numbers a command can answer, and that a refused one changes nothing. Assumes nothing.
+-- comes after some commands is a run on the arena that they left, `run-by-calls` that it does and answers what the calls of its commands would
+-- (`command-by-call` of one of them), `one-command` which numbers a command can answer, and that a refused one changes nothing. Assumes nothing.
 use Prim.Native.Nat.{ℕ, _≤_, _/_, _%_}
 use mathlib.Core.Path.{_≡_, refl}
 use mathlib.Core.Bool.{Bool, true, false, cond}
@@ -21,12 +21,6 @@ use Rattle.every_call.proofs.RefusalChangesNothing.{refused-command}
 use Rattle.every_call.proofs.EveryCallKeeps.{every-call-keeps}
 
 -- ---- one command
-
-module _ (top : ℕ) (a : Arena) where
-  -- a test that chooses between two calls chooses between their replies
-  chosen : (t : Bool) (c d : Call) (r s : Reply) → r ≡ accepted top c a [] → s ≡ accepted top d a [] → cond t r s ≡ accepted top (cond t c d) a []
-  chosen true c d r s x y = x
-  chosen false c d r s x y = y
 
 answer-over : (over : Bool) → AnswerWord (doneNumber over)
 answer-over true = done-with-overflow
@@ -54,6 +48,12 @@ one-command top a c = record {
   answer = search (either-answers, answer-over, done, stale, neighbour, coded-answers) depth 12;
   refused = refused-command top a c .arena;
 }
+
+module _ (top : ℕ) (a : Arena) where
+  -- a test that chooses between two calls chooses between their replies
+  chosen : (t : Bool) (c d : Call) (r s : Reply) → r ≡ accepted top c a [] → s ≡ accepted top d a [] → cond t r s ≡ accepted top (cond t c d) a []
+  chosen true c d r s x y = x
+  chosen false c d r s x y = y
 
 -- what a command replies is the reply of its own call
 pub command-by-call : (limit top : ℕ) (a : Arena) (c : Command) → verdict limit a ≡ 0 → apply top a c ≡ replyTo limit top (callOf c) a []

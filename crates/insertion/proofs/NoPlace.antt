@@ -1,5 +1,6 @@
--- 17 comes exactly where a link that the kind names is not there, or no chain has the place that it asks for. A kind that has a place makes a chain; and a chain that it could make shows
--- that its condition holds: the last link of an open chain has no next, its first has no prev, and what comes after a link is its next. Assumes nothing.
+-- 17 comes exactly where a link that the kind names is not there, or no chain has the place that it asks for. A kind that has a place makes a chain;
+-- and a chain that it could make shows that its condition holds: the last link of an open chain has no next, its first has no prev, and what comes
+-- after a link is its next. Assumes nothing.
 use Prim.Native.Nat.{ℕ}
 use mathlib.Core.Path.{_≡_, refl, sym, ap, _∙_}
 use mathlib.Core.Logic.{_↔_, inl, inr}

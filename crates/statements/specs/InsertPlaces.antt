@@ -12,7 +12,8 @@ use Rattle.statements.specs.Chains.{Kind, opened, closed, IsOpen, Chain,
 abbrev pub chain : Kind → List ℕ → Chain
 chain k c = record { kind = k; members = c }
 
--- what comes after the links c of a chain, if e are the others, in their order: the first of e; behind the last link of an open chain nothing, behind that of a closed one its first
+-- what comes after the links c of a chain, if e are the others, in their order: the first of e; behind the last link of an open chain nothing, behind
+-- that of a closed one its first
 unfoldable pub following : Kind → List ℕ → List ℕ → ℕ
 following opened c e = firstOr 0 e
 following closed c e = firstOr (firstOr 0 c) e
