@@ -97,7 +97,7 @@ fn all_steps() -> Vec<(String, bool)> {
         .into_iter()
         .chain(["", "level-one", "level-two", "level-three"].into_iter().flat_map(alone));
     let last = [
-        ("cargo test -p checker --profile quick --no-default-features --offline --quiet --bin checker --test program".to_string(), true),
+        ("cargo test -p checker --profile quick --no-default-features --offline --quiet --test program".to_string(), true),
         ("cargo test -p checker --profile quick --no-default-features --features level-two --offline --quiet --test program".to_string(), true),
         ("cargo run --offline --quiet -p oracle --bin compare".to_string(), true),
         ("cargo run --offline --quiet".to_string(), false),
