@@ -14,9 +14,10 @@
  * also where the count is 0. Slices of one call must not overlap where the call writes to one of them. Nothing is asked of
  * the words: every call ends and answers on any columns, any header and any arguments.
  *
- * Every result begins with two words (Replies):
+ * Every result begins with three words (Replies):
  *   number   0: done; 100: done, and the generation overflowed; any other: refused, and why
- *   broken   with number 11 a link at which rule 11 fails, else 0
+ *   broken   with number 11 the lowest slot at which rule 11 fails, else 0
+ *   side     with number 11 where it fails there, CHAIN_ARENA_SIDE_..: 1 at the prev, 2 at the next alone; else 0
  * Every call begins with the check, which goes over the whole stack, and gives its refusal, 1 to 11. A refused call has
  * written nothing, and the further words of its result are 0; only a step answers its state, as it got it.
  *
@@ -83,6 +84,10 @@
 #define CHAIN_ARENA_REFUSED_NOT_WITHIN_CAPACITY  18u
 #define CHAIN_ARENA_OVERFLOWED                   100u
 
+/* The sides of a link, as the word side has them. */
+#define CHAIN_ARENA_SIDE_PREV 1u
+#define CHAIN_ARENA_SIDE_NEXT 2u
+
 /* How many words the header, a command, the item of a drain and the item of an order-preserving compression have. */
 #define CHAIN_ARENA_HEADER_WORDS 4u
 #define CHAIN_ARENA_COMMAND_WORDS 6u
@@ -130,12 +135,14 @@ extern "C" {
 typedef struct chain_arena_plain_result {
     uint32_t number;
     uint32_t broken;
+    uint32_t side;
 } chain_arena_plain_result;
 
 /* A link with its neighbours' generations; a neighbour that is not there has slot 0 and generation 0. */
 typedef struct chain_arena_link_result {
     uint32_t number;
     uint32_t broken;
+    uint32_t side;
     uint32_t prev;
     uint32_t prev_generation;
     uint32_t next;
@@ -147,6 +154,7 @@ typedef struct chain_arena_link_result {
 typedef struct chain_arena_link_no_gen_result {
     uint32_t number;
     uint32_t broken;
+    uint32_t side;
     uint32_t prev;
     uint32_t next;
     uint32_t payload;
@@ -156,6 +164,7 @@ typedef struct chain_arena_link_no_gen_result {
 typedef struct chain_arena_neighbors_result {
     uint32_t number;
     uint32_t broken;
+    uint32_t side;
     uint32_t yes;
 } chain_arena_neighbors_result;
 
@@ -164,6 +173,7 @@ typedef struct chain_arena_neighbors_result {
 typedef struct chain_arena_walk_result {
     uint32_t number;
     uint32_t broken;
+    uint32_t side;
     uint32_t start;
     uint32_t position;
     uint32_t direction;
@@ -174,6 +184,7 @@ typedef struct chain_arena_walk_result {
 typedef struct chain_arena_step_result {
     uint32_t number;
     uint32_t broken;
+    uint32_t side;
     uint32_t slot;
     uint32_t generation;
     uint32_t start;
@@ -186,6 +197,7 @@ typedef struct chain_arena_step_result {
 typedef struct chain_arena_drain_result {
     uint32_t number;
     uint32_t broken;
+    uint32_t side;
     uint32_t items;
     uint32_t overflowed;
 } chain_arena_drain_result;
@@ -194,6 +206,7 @@ typedef struct chain_arena_drain_result {
 typedef struct chain_arena_insert_result {
     uint32_t number;
     uint32_t broken;
+    uint32_t side;
     uint32_t slot;
     uint32_t generation;
 } chain_arena_insert_result;

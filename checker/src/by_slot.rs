@@ -1,6 +1,6 @@
 //! Reading any arena by slot, whole or broken: a word that is not there reads as 0, but for a payload.
 
-use chain_arena::{Header, OwnedArena};
+use chain_arena::{Header, OwnedArena, Side};
 
 /// What stands in the slots of an arena.
 pub trait BySlot {
@@ -16,6 +16,14 @@ pub trait BySlot {
     fn generation(&self, slot: u32) -> u32;
     /// The payload of a slot; none where its column has ended.
     fn payload(&self, slot: u32) -> Option<u32>;
+
+    /// The neighbour of a slot on a side.
+    fn neighbour(&self, slot: u32, side: Side) -> u32 {
+        match side {
+            Side::Prev => self.prev(slot),
+            Side::Next => self.next(slot),
+        }
+    }
 
     /// Whether a slot of the stack is a link.
     fn is_link(&self, slot: u32) -> bool {

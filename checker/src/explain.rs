@@ -1,17 +1,21 @@
 //! Why the check refuses an arena, with the slots and numbers at hand: one sentence, or for rule 11 one for each fault.
 //!
-//! Which rule fails is what the proved check says. This only looks for the words that make it fail.
+//! Which rule fails is what the proved check says, and of rule 11 at which slot and side. This only looks for the words that
+//! make it fail.
 
-use chain_arena::{Header, OwnedArena, Refusal};
+use chain_arena::{Header, OwnedArena, Refusal, Side};
 
 use crate::by_slot::BySlot;
 use crate::panel::Fault;
 use crate::wording::counted;
 
+/// What stands behind the fault that the check names, if there are others.
+const NAMED: &str = " (named by the check)";
+
 /// Why a rule fails.
 #[derive(Debug, PartialEq, Eq)]
 pub struct Why {
-    /// In one sentence; the first one, if there are several
+    /// In one sentence; of rule 11, what is wrong on the side that the check names
     pub sentence: String,
     /// The slots at which it fails, rising, with a sentence for each fault; none if that lies with no single slot
     pub faults: Vec<Fault>,
@@ -36,14 +40,15 @@ impl Why {
 
     /// A line for each fault, and how many there are if there is more than one.
     pub fn text(&self) -> String {
-        if self.faults.len() < 2 {
-            return format!("  {}\n", self.sentence);
-        }
         let lines: String = self.faults.iter().map(|fault| format!("  {}\n", fault.sentence)).collect();
-        format!("{lines}  {}\n", self.count())
+        match self.faults.len() {
+            0 => format!("  {}\n", self.sentence),
+            1 => lines,
+            _ => format!("{lines}  {}\n", self.count()),
+        }
     }
 
-    /// The first sentence, and how many there are if there is more than one.
+    /// The one sentence, and how many faults there are if there is more than one.
     pub fn summary(&self) -> String {
         match self.faults.len() {
             0 | 1 => self.sentence.clone(),
@@ -74,7 +79,7 @@ pub fn explain(a: &OwnedArena, refusal: Refusal) -> Why {
             counted(a.stack().filter(|&slot| a.is_link(slot)).count(), "link")
         )),
         5 => root(a),
-        11 => interlinks(a),
+        11 => interlinks(a, refusal),
         _ => freelist(a),
     }
 }
@@ -164,39 +169,36 @@ fn missed(a: &OwnedArena, last: u32, count: usize, visited: &[bool]) -> Why {
     )
 }
 
-/// Rule 11: what is wrong with each link's prev, and with its next.
-fn interlinks(a: &OwnedArena) -> Why {
-    let faults: Vec<Fault> =
-        a.stack().filter(|&slot| a.is_link(slot)).flat_map(|slot| interlink(a, slot)).collect();
-    Why { sentence: faults.first().map_or_else(String::new, |fault| fault.sentence.clone()), faults }
+/// Rule 11: what is wrong with each link's prev, and then with its next. The first of these is what the check names.
+fn interlinks(a: &OwnedArena, refusal: Refusal) -> Why {
+    let named = refusal.slot().map(u32::from).zip(refusal.side());
+    let sentence = named.and_then(|(slot, side)| wrong(a, slot, side));
+    let links = a.stack().filter(|&slot| a.is_link(slot));
+    let sides = links.flat_map(|slot| [Side::Prev, Side::Next].map(|side| (slot, side)));
+    let all: Vec<_> = sides.filter_map(|(slot, side)| Some((slot, side, wrong(a, slot, side)?))).collect();
+    let mark = |slot, side| if all.len() > 1 && named == Some((slot, side)) { NAMED } else { "" };
+    let faults = all.iter().map(|(slot, side, wrong)| Fault {
+        slot: *slot,
+        sentence: format!("slot {slot}: {wrong}{}", mark(*slot, *side)),
+    });
+    Why { sentence: sentence.unwrap_or_else(|| refusal.kind().to_string()), faults: faults.collect() }
 }
 
-/// What is wrong with a link's prev, and with its next.
-fn interlink(a: &OwnedArena, slot: u32) -> impl Iterator<Item = Fault> {
-    let prev = side(a, slot, ("prev", a.prev(slot)), ("next", a.next(a.prev(slot))));
-    let next = side(a, slot, ("next", a.next(slot)), ("prev", a.prev(a.next(slot))));
-    let fault = move |wrong| Fault { slot, sentence: format!("slot {slot}: {wrong}") };
-    prev.into_iter().chain(next).map(fault)
-}
-
-/// What is wrong with a link's neighbour on one side, which must name the link back on the other side.
-fn side(
-    a: &OwnedArena,
-    slot: u32,
-    (name, neighbour): (&str, u32),
-    (back, named): (&str, u32),
-) -> Option<String> {
-    let stack = a.header().stack_length;
+/// What is wrong with a link's neighbour on a side, which must name the link back on the other side.
+fn wrong(a: &OwnedArena, slot: u32, side: Side) -> Option<String> {
+    let (neighbour, stack) = (a.neighbour(slot, side), a.header().stack_length);
+    let back = if side == Side::Prev { Side::Next } else { Side::Prev };
+    let named = a.neighbour(neighbour, back);
     if neighbour == 0 {
         None
     } else if neighbour > stack {
-        Some(format!("its {name} is {neighbour}, which is above the stack length {stack}"))
+        Some(format!("its {side} is {neighbour}, which is above the stack length {stack}"))
     } else if a.is_free(neighbour) {
-        Some(format!("its {name} is {neighbour}, but slot {neighbour} is free"))
+        Some(format!("its {side} is {neighbour}, but slot {neighbour} is free"))
     } else if named == 0 {
-        Some(format!("its {name} is {neighbour}, but slot {neighbour} has no {back}"))
+        Some(format!("its {side} is {neighbour}, but slot {neighbour} has no {back}"))
     } else if named != slot {
-        Some(format!("its {name} is {neighbour}, but the {back} of slot {neighbour} is {named}, not {slot}"))
+        Some(format!("its {side} is {neighbour}, but the {back} of slot {neighbour} is {named}, not {slot}"))
     } else {
         None
     }
@@ -206,6 +208,7 @@ fn side(
 mod tests {
     use super::*;
     use crate::picture::Picture;
+    use crate::random::{Random, add_room};
 
     /// The words that must stand in the sentence of each refusal from 2 on.
     const KEY: [&str; 10] = [
@@ -218,7 +221,7 @@ mod tests {
         "is a link",
         "again, and none of its slots points at itself",
         "is not on it",
-        ": its ",
+        "its ",
     ];
 
     /// Calls `look` with every arena of two slots whose words are small.
@@ -246,45 +249,82 @@ mod tests {
             seen[number] += 1;
             let why = explain(a, refusal);
             assert!(why.sentence.contains(KEY[number - 2]), "{refusal} of {a:?}: {why:?}");
-            assert!(!why.sentence.ends_with(": "), "{refusal} of {a:?}: {why:?}");
             assert!(
                 why.faults.iter().all(|fault| a.stack().contains(&fault.slot)),
                 "{refusal} of {a:?}: {why:?}"
             );
             assert!(why.faults.is_sorted_by_key(|fault| fault.slot), "{refusal} of {a:?}: {why:?}");
-            assert!(why.faults.first().is_none_or(|fault| fault.sentence == why.sentence));
+            let place = if number == 11 { format!("slot {}: ", why.faults[0].slot) } else { String::new() };
+            let sentence = format!("{place}{}", why.sentence);
+            assert!(
+                why.faults.first().is_none_or(|fault| fault.sentence.trim_end_matches(NAMED) == sentence)
+            );
         });
         assert!(seen.iter().enumerate().all(|(number, &count)| count > 0 || number == 1), "{seen:?}");
     }
 
     /// The sides of links at which rule 11 fails, as REFERENCE, Check tells it.
-    fn broken_sides(a: &OwnedArena) -> Vec<(u32, &'static str)> {
+    fn broken_sides(a: &OwnedArena) -> Vec<(u32, Side)> {
         let links: Vec<u32> = a.stack().filter(|&slot| a.is_link(slot)).collect();
         let good = |neighbour, back: u32, slot| neighbour == 0 || links.contains(&neighbour) && back == slot;
         let mut broken = Vec::new();
         for &slot in &links {
             let (prev, next) = (a.prev(slot), a.next(slot));
-            broken.extend((!good(prev, a.next(prev), slot)).then_some((slot, "its prev is")));
-            broken.extend((!good(next, a.prev(next), slot)).then_some((slot, "its next is")));
+            broken.extend((!good(prev, a.next(prev), slot)).then_some((slot, Side::Prev)));
+            broken.extend((!good(next, a.prev(next), slot)).then_some((slot, Side::Next)));
         }
         broken
     }
 
+    /// Holds that every fault of rule 11 is listed, by rising slots and the prev before the next, and that the check names the
+    /// first of them. Answers the faults, none if it is not rule 11 that fails.
+    fn listed(a: &OwnedArena) -> Vec<(u32, Side)> {
+        let refusal = a.as_arena().check().err().filter(|refusal| refusal.number() == 11);
+        let Some(refusal) = refusal else { return Vec::new() };
+        let (why, broken) = (explain(a, refusal), broken_sides(a));
+        let named = broken[0];
+        assert_eq!((refusal.slot().map(u32::from), refusal.side()), (Some(named.0), Some(named.1)), "{a:?}");
+        assert_eq!(why.faults.len(), broken.len(), "{a:?}: {why:?}");
+        for (fault, &(slot, side)) in why.faults.iter().zip(&broken) {
+            assert_eq!(fault.slot, slot, "{a:?}: {why:?}");
+            assert!(fault.sentence.starts_with(&format!("slot {slot}: its {side} is ")), "{a:?}: {why:?}");
+            let marked = broken.len() > 1 && (slot, side) == named;
+            assert_eq!(fault.sentence.ends_with(NAMED), marked, "{a:?}: {why:?}");
+        }
+        assert!(why.sentence.starts_with(&format!("its {} is ", named.1)), "{a:?}: {why:?}");
+        broken
+    }
+
     #[test]
-    fn every_fault_of_rule_11_is_listed_and_the_check_names_the_lowest() {
-        every_small_arena(|a| {
-            let Err(refusal) = a.as_arena().check() else { return };
-            if refusal.number() != 11 {
-                return;
+    fn every_fault_of_rule_11_is_listed_and_the_check_names_the_first() {
+        every_small_arena(|a| drop(listed(a)));
+        let mut random = Random::new(13);
+        // How often the check named each side, alone at its slot or with the other one, and in how many slots rule 11 failed.
+        let mut seen = [[0; 3]; 4];
+        for round in 0..40_000 {
+            let chains = random.chains(1 + round % 6, 4, 9);
+            let mut a = random.arena(&chains, round % 3);
+            let length = a.capacity();
+            add_room(&mut a, round % 4);
+            for _ in 0..1 + random.below(4) {
+                let (place, word) = (random.below(length), random.below(length + 5) as u16);
+                match random.below(2) {
+                    0 => a.prev[place] = word,
+                    _ if a.generation[place] != 0 => a.next[place] = word,
+                    _ => {}
+                }
             }
-            let (why, broken) = (explain(a, refusal), broken_sides(a));
-            assert_eq!(why.faults.len(), broken.len(), "{a:?}: {why:?}");
-            for (fault, (slot, side)) in why.faults.iter().zip(broken) {
-                assert_eq!(fault.slot, slot, "{a:?}: {why:?}");
-                assert!(fault.sentence.starts_with(&format!("slot {slot}: {side} ")), "{a:?}: {why:?}");
-            }
-            assert_eq!(refusal.slot().map(u32::from), why.faults.first().map(|fault| fault.slot));
-        });
+            let broken = listed(&a);
+            let Some(&(slot, side)) = broken.first() else { continue };
+            let both = broken.contains(&(slot, Side::Prev)) && broken.contains(&(slot, Side::Next));
+            let slots = broken.chunk_by(|one, other| one.0 == other.0).count();
+            seen[2 * usize::from(both) + usize::from(side == Side::Next)][slots.min(3) - 1] += 1;
+        }
+        // Where both sides fail, the prev is named.
+        assert!(
+            seen.iter().enumerate().all(|(k, seen)| seen.iter().all(|&count| (count > 100) == (k != 3))),
+            "{seen:?}"
+        );
     }
 
     #[test]

@@ -74,7 +74,7 @@ impl Judged {
         match &self.refused {
             Some((refusal, why)) => Panel {
                 passes: false,
-                verdict: format!("refused with {}: {}", refusal.number(), why.summary()),
+                verdict: format!("{}: {}", refused(*refusal), why.summary()),
                 faults: why.faults.clone(),
                 ..panel
             },
@@ -86,6 +86,12 @@ impl Judged {
     pub fn show(&self) -> Shown {
         Shown { text: self.text(), panels: vec![self.panel()], passes: self.refused.is_none() }
     }
+}
+
+/// A refusal without the words of its rule: its number, and with 11 the slot and the side that the check names.
+fn refused(refusal: Refusal) -> String {
+    let (said, words) = (refusal.to_string(), format!(": {}", refusal.kind()));
+    said.strip_suffix(&words).unwrap_or(&said).to_string()
 }
 
 /// The rows of an arena as text: all, or those with the chain of a slot, which is marked.

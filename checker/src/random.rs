@@ -182,7 +182,6 @@ impl Random {
 }
 
 /// Adds room above the stack, in which there are words that mean nothing.
-#[cfg(feature = "level-two")]
 pub fn add_room(arena: &mut OwnedArena, room: usize) {
     for k in 0..room as u32 {
         arena.prev.push(900 + k as u16);

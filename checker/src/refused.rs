@@ -4,7 +4,7 @@
 
 use std::fmt;
 
-use chain_arena::{Command, LinkInsertKind, OwnedArena, Ptr, Refusal, RefusalKind, Slot};
+use chain_arena::{Command, LinkInsertKind, OwnedArena, Ptr, Refusal, RefusalKind, Side, Slot};
 
 use crate::by_slot::BySlot;
 use crate::commands::written;
@@ -69,31 +69,6 @@ fn full(a: &OwnedArena) -> Option<String> {
     full.then(|| format!("there is no room: the capacity is {capacity}, and no slot is free"))
 }
 
-/// A side of a link.
-#[derive(Clone, Copy)]
-enum Side {
-    Prev,
-    Next,
-}
-
-impl Side {
-    /// Its name.
-    fn name(self) -> &'static str {
-        match self {
-            Self::Prev => "prev",
-            Self::Next => "next",
-        }
-    }
-
-    /// The neighbour of a slot on this side, 0 for none.
-    fn of(self, a: &OwnedArena, slot: u32) -> u32 {
-        match self {
-            Self::Prev => a.prev(slot),
-            Self::Next => a.next(slot),
-        }
-    }
-}
-
 /// A link as a command names it.
 #[derive(Clone, Copy)]
 enum Named {
@@ -139,13 +114,13 @@ impl Named {
 
     /// That the link has a neighbour on a side.
     fn has(self, a: &OwnedArena, side: Side) -> Option<String> {
-        let neighbour = side.of(a, self.slot());
-        (neighbour != 0).then(|| format!("{self} has a {}, slot {neighbour}", side.name()))
+        let neighbour = a.neighbour(self.slot(), side);
+        (neighbour != 0).then(|| format!("{self} has a {side}, slot {neighbour}"))
     }
 
     /// That the link has no neighbour on a side.
     fn has_no(self, a: &OwnedArena, side: Side) -> Option<String> {
-        (side.of(a, self.slot()) == 0).then(|| format!("{self} has no {}", side.name()))
+        (a.neighbour(self.slot(), side) == 0).then(|| format!("{self} has no {side}"))
     }
 
     /// That another link is not the next one.

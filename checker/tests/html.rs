@@ -223,15 +223,49 @@ fn a_page_around_a_free_slot_shows_all_of_the_compression() {
 
 #[test]
 fn a_broken_arena_says_why_without_a_script() {
-    let page = written(&["check", "broken.txt"], "why.html");
-    let sentence = "slot 1: its next is 2, but the prev of slot 2 is 4, not 1";
-    let verdict =
-        format!("<p class=\"verdict refused\">refused with 11: {sentence} (2 faults at 2 slots)</p>");
-    assert!(page.contains(&verdict) && !page.contains("passes the check"));
-    assert!(page.contains("<h3>Faults: 2</h3>"));
-    assert!(page.contains(&format!("<li><b>1</b> {sentence}</li>")));
-    assert!(page.contains("<li><b>2</b> slot 2: its prev is 4, but slot 4 has no next</li>"));
-    assert_eq!(column(&page, "faults"), [1, 2]);
+    for (name, verdict, faults) in [
+        (
+            "broken",
+            "at the next of slot 1: its next is 2, but the prev of slot 2 is 4, not 1 (2 faults at 2 slots)",
+            &[
+                (1, "slot 1: its next is 2, but the prev of slot 2 is 4, not 1 (named by the check)"),
+                (2, "slot 2: its prev is 4, but slot 4 has no next"),
+            ][..],
+        ),
+        (
+            "broken_next",
+            "at the next of slot 4: its next is 2, but slot 2 has no prev",
+            &[(4, "slot 4: its next is 2, but slot 2 has no prev")],
+        ),
+        (
+            "broken_both",
+            "at the prev of slot 3: its prev is 4, but slot 4 is free (2 faults at 1 slot)",
+            &[
+                (3, "slot 3: its prev is 4, but slot 4 is free (named by the check)"),
+                (3, "slot 3: its next is 9, which is above the stack length 5"),
+            ],
+        ),
+        (
+            "broken_two",
+            "at the next of slot 3: its next is 1, but slot 1 has no prev (3 faults at 2 slots)",
+            &[
+                (3, "slot 3: its next is 1, but slot 1 has no prev (named by the check)"),
+                (5, "slot 5: its prev is 4, but slot 4 has no next"),
+                (5, "slot 5: its next is 6, but slot 6 has no prev"),
+            ],
+        ),
+    ] {
+        let page = written(&["check", &format!("{name}.txt")], &format!("why.{name}.html"));
+        let verdict = format!("<p class=\"verdict refused\">refused with 11 {verdict}</p>");
+        assert!(page.contains(&verdict) && !page.contains("passes the check"), "{name}");
+        let (_, list) = page.split_once(&format!("<h3>Faults: {}</h3>", faults.len())).unwrap();
+        let listed = list.lines().filter_map(|line| line.strip_prefix("<li>")?.strip_suffix("</li>"));
+        let items = faults.iter().map(|(slot, sentence)| format!("<b>{slot}</b> {sentence}"));
+        assert!(listed.take(faults.len()).eq(items), "{name}");
+        assert!(column(&page, "faults").into_iter().eq(faults.iter().map(|(slot, _)| *slot)), "{name}");
+        let data: Vec<String> = faults.iter().map(|(_, sentence)| format!("\"{sentence}\"")).collect();
+        assert!(page.contains(&format!("\"sentences\":[{}]}}", data.join(",\n"))), "{name}");
+    }
 }
 
 #[test]

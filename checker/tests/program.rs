@@ -97,6 +97,19 @@ fn a_whole_arena_is_listed() {
 #[test]
 fn a_broken_arena_is_explained() {
     says(&["check", "broken.txt"], "broken.check.out", 1);
+    says(&["check", "broken_next.txt"], "broken_next.check.out", 1);
+    says(&["check", "broken_both.txt"], "broken_both.check.out", 1);
+    says(&["check", "broken_two.txt"], "broken_two.check.out", 1);
+}
+
+#[test]
+fn the_format_page_shows_how_a_broken_arena_is_explained() {
+    let page = Path::new(env!("CARGO_MANIFEST_DIR")).join("../docs/FORMAT.md");
+    let shown = fs::read_to_string(page).unwrap();
+    let said = fs::read_to_string(arenas().join("broken_two.check.out")).unwrap();
+    let example: String = said.lines().map(|line| format!("    {line}\n")).collect();
+    assert!(shown.contains(&format!("\n\n{example}\n")), "{example}");
+    assert!(shown.contains(&format!("\n\n    {NAMED_OF_TWO}\n\n")));
 }
 
 #[test]
@@ -252,7 +265,8 @@ fn that_two_arenas_hold_the_same_is_drawn() {
     let [a, b] = panels(&picture);
     assert!(a.starts_with("A: whole.txt<") && b.starts_with("B: broken.txt<"));
     assert_eq!((verdicts(a), ran.status), (vec!["passes the check", "not compared"], 1));
-    assert!(verdicts(b)[0].starts_with("refused with 11: ") && verdicts(b)[1] == "not compared");
+    let verdict = "refused with 11 at the next of slot 1: its next is 2, but the prev of slot 2 is 4, not 1";
+    assert_eq!(verdicts(b), [&format!("{verdict} (2 faults at 2 slots)"), "not compared"]);
 }
 
 /// The two panels of a picture, each from its title on.
@@ -636,15 +650,24 @@ fn each_refusal_is_explained_and_its_slot_is_drawn_red() {
     ];
     for (number, text, why, slot) in cases {
         let (ran, picture) = on_text("check", "refused.txt", text.as_bytes(), &[]);
-        assert!(
-            ran.stdout.starts_with(&format!("refused.txt: refused with {number}")),
-            "{why}: {}",
-            ran.stdout
-        );
+        let (refused, reason) = refused_with(number, why);
+        assert!(ran.stdout.starts_with(&format!("refused.txt: {refused}: ")), "{why}: {}", ran.stdout);
         assert_eq!(ran.stdout.lines().nth(1), Some(format!("  {why}").as_str()));
         assert_eq!((ran.stdout.lines().count(), ran.stderr.as_str(), ran.status), (2, "", 1));
         assert_eq!(drawn_broken(&picture).concat(), slot, "the red slot, where {why}");
-        assert!(picture.contains(&format!(">refused with {number}: {why}</text>")));
+        assert!(picture.contains(&format!(">{refused}: {reason}</text>")));
+    }
+}
+
+/// What a refusal says before its reason, and the reason; a fault of rule 11 names its slot and its side.
+fn refused_with(number: u32, why: &str) -> (String, &str) {
+    let refused = format!("refused with {number}");
+    match why.strip_prefix("slot ").and_then(|rest| rest.split_once(": ")) {
+        Some((slot, reason)) => {
+            let side = reason.split(' ').nth(1).unwrap();
+            (format!("{refused} at the {side} of slot {slot}"), reason)
+        }
+        None => (refused, why),
     }
 }
 
@@ -701,14 +724,58 @@ fn all_faults_of_rule_11_are_listed_and_drawn_red() {
     ];
     for (lines, said, slots) in cases {
         let (ran, picture) = on_text("check", "faults.txt", changed(lines).as_bytes(), &[]);
-        let first = "faults.txt: refused with 11 at slot ";
-        assert!(ran.stdout.starts_with(&format!("{first}{}: ", &slots[..1])), "{}", ran.stdout);
+        let (refused, reason) = refused_with(11, said[0]);
+        assert!(ran.stdout.starts_with(&format!("faults.txt: {refused}: ")), "{}", ran.stdout);
         let faults: Vec<&str> = ran.stdout.lines().skip(1).map(str::trim_start).collect();
-        assert_eq!((faults.as_slice(), ran.status), (said, 1));
+        let mut listed: Vec<String> = said.iter().map(|line| line.to_string()).collect();
+        listed[0] += " (named by the check)";
+        assert_eq!((faults, ran.status), (listed.iter().map(String::as_str).collect(), 1));
         assert_eq!(drawn_broken(&picture).concat(), slots);
-        let count = said.len() - 1;
-        assert!(picture.contains(&format!(">refused with 11: {} ({})</text>", said[0], said[count])));
-        assert!(said[..count].iter().all(|fault| picture.contains(fault)));
+        let (count, faults) = listed.split_last().unwrap();
+        assert!(picture.contains(&format!(">{refused}: {reason} ({count})</text>")));
+        assert!(faults.iter().all(|fault| picture.contains(fault)));
+    }
+}
+
+/// The verdict of a picture on broken_two.txt.
+const NAMED_OF_TWO: &str =
+    "refused with 11 at the next of slot 3: its next is 1, but slot 1 has no prev (3 faults at 2 slots)";
+
+#[test]
+fn the_named_slot_and_its_side_are_drawn() {
+    let out = folder("named").join("out.svg");
+    let slots_of = |title: &str| title.split(": ").next().map(|slot| slot.replace("slot ", "")).unwrap();
+    for (file, verdict, titles) in [
+        (
+            "broken_next.txt",
+            "refused with 11 at the next of slot 4: its next is 2, but slot 2 has no prev",
+            &["slot 4: its next is 2, but slot 2 has no prev"][..],
+        ),
+        (
+            "broken_both.txt",
+            "refused with 11 at the prev of slot 3: its prev is 4, but slot 4 is free (2 faults at 1 slot)",
+            &["slot 3: its prev is 4, but slot 4 is free (named by the check); \
+               slot 3: its next is 9, which is above the stack length 5"],
+        ),
+        (
+            "broken_two.txt",
+            NAMED_OF_TWO,
+            &[
+                "slot 3: its next is 1, but slot 1 has no prev (named by the check)",
+                "slot 5: its prev is 4, but slot 4 has no next; slot 5: its next is 6, but slot 6 has no prev",
+            ],
+        ),
+    ] {
+        assert_eq!(checker(&["check", file, "--svg", word(&out)]).status, 1);
+        let picture = fs::read_to_string(&out).unwrap();
+        assert_eq!(
+            picture.matches(&format!("<text class=\"wrong\" x=\"20\" y=\"58\">{verdict}</text>")).count(),
+            1
+        );
+        let drawn: Vec<&str> =
+            picture.split("<title>").skip(1).map(|text| text.split('<').next().unwrap()).collect();
+        assert_eq!(drawn, titles, "{file}");
+        assert!(drawn_broken(&picture).into_iter().eq(titles.iter().map(|title| slots_of(title))), "{file}");
     }
 }
 

@@ -1,9 +1,10 @@
 //! The exported calls as the archives have them. A lent slice crosses as a pointer and an element count; an answer is a
 //! struct by value. The same calls stand in include/chain_arena.h, and docs/REFERENCE.md is the manual of all of them.
 //!
-//! Every result begins with `number` (0: done, 100: done, and the generation overflowed, any other: refused, and why) and
-//! `broken` (with 11 a link at which rule 11 fails, else 0). In a refusal every further field is 0; only a step answers its
-//! state, as it got it.
+//! Every result begins with `number` (0: done, 100: done, and the generation overflowed, any other: refused, and why),
+//! `broken` (with 11 the lowest slot at which rule 11 fails, else 0) and `side` (with 11 where it fails there, 1: at the
+//! prev, 2: at the next alone, else 0). `done` reads these three. In a refusal every further field is 0; only a step answers
+//! its state, as it got it.
 //!
 //! # Safety
 //!
@@ -11,12 +12,15 @@
 //! where the count is 0; and no two slices of one call may overlap if the call writes to one of them. Nothing is asked of
 //! the words themselves: every call ends and answers on any columns and any header.
 
+use crate::{Done, Refusal};
+
 /// The answer of a call that answers a number and nothing else.
 #[repr(C)]
 #[derive(Clone, Copy, Debug, PartialEq, Eq)]
 pub struct PlainResult {
     pub number: u32,
     pub broken: u32,
+    pub side: u32,
 }
 
 /// A link with its neighbours' generations; a neighbour that is not there has slot 0 and generation 0.
@@ -25,6 +29,7 @@ pub struct PlainResult {
 pub struct LinkResult {
     pub number: u32,
     pub broken: u32,
+    pub side: u32,
     pub prev: u32,
     pub prev_generation: u32,
     pub next: u32,
@@ -38,6 +43,7 @@ pub struct LinkResult {
 pub struct LinkNoGenResult {
     pub number: u32,
     pub broken: u32,
+    pub side: u32,
     pub prev: u32,
     pub next: u32,
     pub payload: u32,
@@ -49,6 +55,7 @@ pub struct LinkNoGenResult {
 pub struct NeighborsResult {
     pub number: u32,
     pub broken: u32,
+    pub side: u32,
     pub yes: u32,
 }
 
@@ -58,6 +65,7 @@ pub struct NeighborsResult {
 pub struct WalkResult {
     pub number: u32,
     pub broken: u32,
+    pub side: u32,
     pub start: u32,
     pub position: u32,
     pub direction: u32,
@@ -70,6 +78,7 @@ pub struct WalkResult {
 pub struct StepResult {
     pub number: u32,
     pub broken: u32,
+    pub side: u32,
     pub slot: u32,
     pub generation: u32,
     pub start: u32,
@@ -84,6 +93,7 @@ pub struct StepResult {
 pub struct DrainResult {
     pub number: u32,
     pub broken: u32,
+    pub side: u32,
     pub items: u32,
     pub overflowed: u32,
 }
@@ -94,9 +104,28 @@ pub struct DrainResult {
 pub struct InsertResult {
     pub number: u32,
     pub broken: u32,
+    pub side: u32,
     pub slot: u32,
     pub generation: u32,
 }
+
+/// Gives each result what its first three words stand for, taken by their names.
+macro_rules! done {
+    ($($result:ident)*) => {
+        $(impl $result {
+            /// That the call was done, or its refusal, as `number`, `broken` and `side` tell it.
+            ///
+            /// # Errors
+            ///
+            /// The refusal, where the number is neither 0 nor 100.
+            pub const fn done(self) -> Result<Done, Refusal> {
+                Done::of(self.number, self.broken, self.side)
+            }
+        })*
+    };
+}
+
+done! { PlainResult LinkResult LinkNoGenResult NeighborsResult WalkResult StepResult DrainResult InsertResult }
 
 // Level One
 #[cfg(feature = "level-one")]

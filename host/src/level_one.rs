@@ -1,6 +1,6 @@
 //! Level One: checking an arena, reading links and neighbours, starting a walk (REFERENCE, Check, Reading and Walk).
 
-use crate::{Arena, Done, Link, LinkNoGen, Ptr, Refusal, Steps, Walk};
+use crate::{Arena, Link, LinkNoGen, Ptr, Refusal, Steps, Walk};
 
 /// The calls of Level One. Each checks the whole arena first; [`checked`](Self::checked) does so once for many reads.
 impl<'a> Arena<'a> {
@@ -10,8 +10,7 @@ impl<'a> Arena<'a> {
     ///
     /// 1 to 11: the first rule that fails.
     pub fn check(&self) -> Result<(), Refusal> {
-        let answer = call!(chain_arena_check(self, as_ptr));
-        Done::plain(answer.number, answer.broken)
+        call!(chain_arena_check(self, as_ptr)).done().map(|_| ())
     }
 
     /// The link at `p`, its neighbours with their generations.
@@ -21,7 +20,7 @@ impl<'a> Arena<'a> {
     /// 1 to 11 as [`check`](Self::check), then 12 if `p` is stale.
     pub fn get_link(&self, p: Ptr) -> Result<Link, Refusal> {
         let answer = call!(chain_arena_get_link(self, as_ptr, p.slot, p.generation));
-        Done::plain(answer.number, answer.broken).map(|()| answer.into())
+        answer.done().map(|_| answer.into())
     }
 
     /// The link at `p`, its neighbours by their slots.
@@ -31,7 +30,7 @@ impl<'a> Arena<'a> {
     /// 1 to 11 as [`check`](Self::check), then 12 if `p` is stale.
     pub fn get_link_no_gen(&self, p: Ptr) -> Result<LinkNoGen, Refusal> {
         let answer = call!(chain_arena_get_link_no_gen(self, as_ptr, p.slot, p.generation));
-        Done::plain(answer.number, answer.broken).map(|()| answer.into())
+        answer.done().map(|_| answer.into())
     }
 
     /// Whether the next of `p_prev` is `p_next`; false if one of them is stale.
@@ -48,7 +47,7 @@ impl<'a> Arena<'a> {
             p_next.slot,
             p_next.generation
         ));
-        Done::plain(answer.number, answer.broken).map(|()| answer.yes != 0)
+        answer.done().map(|_| answer.yes != 0)
     }
 
     /// The state of a walk that begins at `p`, to be stepped also while the arena changes.
@@ -58,8 +57,7 @@ impl<'a> Arena<'a> {
     /// 1 to 11 as [`check`](Self::check), then 12 if `p` is stale.
     pub fn walk_start(&self, p: Ptr) -> Result<Walk, Refusal> {
         let answer = call!(chain_arena_walk_start(self, as_ptr, p.slot, p.generation));
-        Done::plain(answer.number, answer.broken)?;
-        Ok(Walk {
+        answer.done().map(|_| Walk {
             start: answer.start,
             position: answer.position,
             direction: answer.direction,

@@ -1,6 +1,6 @@
 //! Level Three: the compressions of a lent arena (REFERENCE, Compression).
 
-use crate::{ArenaMut, Done, Header, Ptr, Refusal, Slot};
+use crate::{ArenaMut, Header, Ptr, Refusal, Slot};
 
 /// The calls of Level Three. Each begins with the check and gives its refusal, 1 to 11; a refused call has written nothing.
 ///
@@ -56,7 +56,7 @@ impl ArenaMut<'_> {
             report.as_mut_ptr(),
             report.len()
         ));
-        let done = Done::of(answer.number, answer.broken)?;
+        let done = answer.done()?;
         let Header { link_count, generation, .. } = self.words();
         let report = first(report.as_chunks().0, link_count);
         Ok(CompressedWith { report, generation, overflowed: done.overflowed })
@@ -80,7 +80,7 @@ impl ArenaMut<'_> {
             where_from.as_mut_ptr(),
             where_from.len()
         ));
-        let done = Done::of(answer.number, answer.broken)?;
+        let done = answer.done()?;
         let Header { link_count, generation, .. } = self.words();
         let where_from = first(where_from, link_count);
         Ok(CompressedCanonical { where_from, generation, overflowed: done.overflowed })

@@ -102,8 +102,7 @@ impl ArenaMut<'_> {
             q.generation,
             payload
         ));
-        Done::plain(answer.number, answer.broken)?;
-        Ok(Ptr { slot: answer.slot as Slot, generation: answer.generation })
+        answer.done().map(|_| Ptr { slot: answer.slot as Slot, generation: answer.generation })
     }
 
     /// Takes the link at `p` out and joins its neighbours.
@@ -113,8 +112,7 @@ impl ArenaMut<'_> {
     /// 1 to 11 as `Arena::check`, then 12 if `p` is stale.
     pub fn remove(&mut self, p: Ptr) -> Result<Removed, Refusal> {
         let answer = call!(chain_arena_remove(self, as_mut_ptr, p.slot, p.generation));
-        let done = Done::of(answer.number, answer.broken)?;
-        Ok(Removed { link: answer.into(), overflowed: done.overflowed })
+        answer.done().map(|done| Removed { link: answer.into(), overflowed: done.overflowed })
     }
 
     /// Removes all links of `p`'s chain in the order of a walk from `p`. The report needs five words for each of them.
@@ -131,11 +129,12 @@ impl ArenaMut<'_> {
             report.as_mut_ptr(),
             report.len()
         ));
-        Done::plain(answer.number, answer.broken)?;
-        let items: &[[u32; DrainedLink::WORDS]] = report.as_chunks().0;
-        let report = items.get(..answer.items as usize).unwrap_or(items);
-        let overflowed_at = (answer.overflowed as usize).checked_sub(1);
-        Ok(Drained { report, overflowed: overflowed_at.is_some(), overflowed_at })
+        answer.done().map(|_| {
+            let items: &[[u32; DrainedLink::WORDS]] = report.as_chunks().0;
+            let report = items.get(..answer.items as usize).unwrap_or(items);
+            let overflowed_at = (answer.overflowed as usize).checked_sub(1);
+            Drained { report, overflowed: overflowed_at.is_some(), overflowed_at }
+        })
     }
 
     /// Sets the current generation, from 2 on.
@@ -153,8 +152,7 @@ impl ArenaMut<'_> {
     ///
     /// 1 to 11 as `Arena::check`.
     pub fn inc_generation(&mut self) -> Result<Done, Refusal> {
-        let answer = call!(chain_arena_inc_generation(self, as_mut_ptr));
-        Done::of(answer.number, answer.broken)
+        call!(chain_arena_inc_generation(self, as_mut_ptr)).done()
     }
 
     /// Pops the free slots above the highest link and links the others in rising order from the root on.
@@ -200,7 +198,7 @@ impl ArenaMut<'_> {
 
 /// What a call answers that can only be done or refused.
 fn plain(answer: PlainResult) -> Result<(), Refusal> {
-    Done::plain(answer.number, answer.broken)
+    answer.done().map(|_| ())
 }
 
 /// A link that was removed.

@@ -119,7 +119,7 @@ pub use level_two::{Drained, DrainedLink, Removed};
 pub use link::{Link, LinkNoGen, Ptr, Slot};
 #[cfg(feature = "alloc")]
 pub use owned::OwnedArena;
-pub use refusal::{Done, Refusal, RefusalKind};
+pub use refusal::{Done, Refusal, RefusalKind, Side};
 #[cfg(feature = "level-two")]
 pub use run::{Answer, Answers, Command, Full, Run};
 #[cfg(feature = "level-one")]

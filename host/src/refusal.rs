@@ -18,25 +18,12 @@ impl Done {
     /// The number of a call that was done and made the current generation overflow.
     pub(crate) const OVERFLOWED: u32 = 100;
 
-    /// What the first two words of a call's result stand for.
-    ///
-    /// # Errors
-    ///
-    /// The refusal, where the number is neither 0 nor 100.
-    pub const fn of(number: u32, broken: u32) -> Result<Self, Refusal> {
+    /// What the first three words of a call's result stand for.
+    pub(crate) const fn of(number: u32, broken: u32, side: u32) -> Result<Self, Refusal> {
         match number {
             0 => Ok(Self { overflowed: false }),
             Self::OVERFLOWED => Ok(Self { overflowed: true }),
-            _ => Err(Refusal { number, broken }),
-        }
-    }
-
-    /// That a call was done which cannot overflow, or its refusal.
-    #[cfg(any(feature = "level-one", feature = "level-two"))]
-    pub(crate) const fn plain(number: u32, broken: u32) -> Result<(), Refusal> {
-        match Self::of(number, broken) {
-            Ok(_) => Ok(()),
-            Err(refusal) => Err(refusal),
+            _ => Err(Refusal { number, broken, side }),
         }
     }
 
@@ -46,7 +33,7 @@ impl Done {
     ///
     /// The refusal, where the word is neither 0 nor 100.
     pub const fn answer(word: u32) -> Result<Self, Refusal> {
-        Self::of(word, 0)
+        Self::of(word, 0, 0)
     }
 }
 
@@ -127,11 +114,43 @@ impl fmt::Display for RefusalKind {
     }
 }
 
+/// A side of a link. `side as u32` is the word that results have for it.
+#[derive(Clone, Copy, Debug, PartialEq, Eq, PartialOrd, Ord, Hash)]
+#[repr(u32)]
+pub enum Side {
+    /// The side of the prev.
+    Prev = 1,
+    /// The side of the next.
+    Next = 2,
+}
+
+impl Side {
+    /// The side of a word, none if it is neither 1 nor 2.
+    #[must_use]
+    pub const fn of(word: u32) -> Option<Self> {
+        match word {
+            1 => Some(Self::Prev),
+            2 => Some(Self::Next),
+            _ => None,
+        }
+    }
+}
+
+/// `prev` or `next`.
+impl fmt::Display for Side {
+    fn fmt(&self, f: &mut fmt::Formatter<'_>) -> fmt::Result {
+        f.write_str(match self {
+            Self::Prev => "prev",
+            Self::Next => "next",
+        })
+    }
+}
+
 /// A refusal. No refused call has written anything.
 ///
 /// ```
 /// # #[cfg(feature = "level-one")] {
-/// use chain_arena::{Arena, RefusalKind};
+/// use chain_arena::{Arena, RefusalKind, Side};
 ///
 /// // The next of slot 1 is 2, but slot 2 has no prev.
 /// let broken = Arena {
@@ -142,10 +161,12 @@ impl fmt::Display for RefusalKind {
 ///     header: &[2, 2, 0, 5],
 /// };
 /// let refusal = broken.check().unwrap_err();
-/// assert_eq!((refusal.kind(), refusal.number(), refusal.slot()), (RefusalKind::BrokenLink, 11, Some(1)));
+/// assert_eq!((refusal.kind(), refusal.number()), (RefusalKind::BrokenLink, 11));
+/// assert_eq!((refusal.slot(), refusal.side()), (Some(1), Some(Side::Next)));
 /// assert_eq!(
 ///     refusal.to_string(),
-///     "refused with 11 at slot 1: a link names a neighbour that is above the stack or free, or does not name it in turn",
+///     "refused with 11 at the next of slot 1: \
+///      a link names a neighbour that is above the stack or free, or does not name it in turn",
 /// );
 /// # }
 /// ```
@@ -155,13 +176,14 @@ impl fmt::Display for RefusalKind {
 pub struct Refusal {
     number: u32,
     broken: u32,
+    side: u32,
 }
 
 impl Refusal {
-    /// A refusal with a number that names no slot.
+    /// A refusal that names no slot.
     #[cfg(feature = "level-one")]
     pub(crate) const fn of(kind: RefusalKind) -> Self {
-        Self { number: kind as u32, broken: 0 }
+        Self { number: kind as u32, broken: 0, side: 0 }
     }
 
     /// Why, by name.
@@ -176,18 +198,27 @@ impl Refusal {
         self.number
     }
 
-    /// With [`RefusalKind::BrokenLink`], the slot of a link at which rule 11 fails.
+    /// With [`RefusalKind::BrokenLink`], the lowest slot at which rule 11 fails.
     #[must_use]
     pub fn slot(self) -> Option<Slot> {
         answered_slot(self.broken).filter(|_| self.kind() == RefusalKind::BrokenLink)
+    }
+
+    /// With [`RefusalKind::BrokenLink`], the side of [`slot`](Self::slot) at which rule 11 fails. The prev is looked at
+    /// first: where both sides fail it is [`Side::Prev`], and with [`Side::Next`] the prev is good.
+    #[must_use]
+    pub fn side(self) -> Option<Side> {
+        Side::of(self.side).filter(|_| self.kind() == RefusalKind::BrokenLink)
     }
 }
 
 impl fmt::Display for Refusal {
     fn fmt(&self, f: &mut fmt::Formatter<'_>) -> fmt::Result {
         write!(f, "refused with {}", self.number)?;
-        if let Some(slot) = self.slot() {
-            write!(f, " at slot {slot}")?;
+        match (self.slot(), self.side()) {
+            (Some(slot), Some(side)) => write!(f, " at the {side} of slot {slot}")?,
+            (Some(slot), None) => write!(f, " at slot {slot}")?,
+            (None, _) => {}
         }
         write!(f, ": {}", self.kind())
     }

@@ -2,7 +2,7 @@
 
 use core::iter::FusedIterator;
 
-use crate::{Arena, Done, Ptr, Refusal};
+use crate::{Arena, Ptr, Refusal};
 
 /// The state of a walk. Any words are a state, and it may be kept while the arena changes.
 ///
@@ -52,8 +52,7 @@ impl Walk {
             direction: answer.direction,
             left: answer.left,
         };
-        Done::plain(answer.number, answer.broken)?;
-        Ok(Ptr::answered(answer.slot, answer.generation))
+        answer.done().map(|_| Ptr::answered(answer.slot, answer.generation))
     }
 }
 

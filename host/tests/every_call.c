@@ -1,5 +1,5 @@
-/* Makes every call of the levels that are asked for, on an arena that passes the check and on one that rule 11 refuses, and prints every word that it
- * answers and leaves.
+/* Makes every call of the levels that are asked for, on an arena that passes the check and on two that rule 11 refuses, one for each side, and prints
+ * every word that it answers and leaves.
  *
  * With the words CALL KIND I J it makes that call alone, with its arguments I and J of a kind exchanged: as if the archive had these two parameters the
  * other way round. The kinds: 0 slices of slots, 1 slices of words, 2 slots, 3 words. It ends with status 2 if the call has no such arguments. */
@@ -19,7 +19,7 @@ typedef struct { slots column[3]; words slice[5]; uint16_t slot[2]; uint32_t wor
 #define ARENA SLOTS(0), SLOTS(1), WORDS(0), WORDS(1), WORDS(2)
 #define POINTER(k) a->slot[k], a->word[k]
 
-#define ANSWER(r) printf(" number %u broken %u", (r).number, (r).broken)
+#define ANSWER(r) printf(" number %u broken %u side %u", (r).number, (r).broken, (r).side)
 #define FIELD(r, name) printf(" " #name " %u", (r).name)
 #define PLAIN(call) do { chain_arena_plain_result r = call; ANSWER(r); } while (0)
 
@@ -135,14 +135,16 @@ static void exchange(arguments *a, int kind, int i, int j) {
     if (kind == 3) EXCHANGE(a->word, i, j);
 }
 
-/* Makes the call with two arguments exchanged (the same one twice: with none), on the chain 1 -> 2 -> 4, the lone link 5 and the free slot 3, or on the same
- * with a prev that the link does not have. */
-static void make(const call *c, int broken, int kind, int i, int j) {
+/* Makes the call with two arguments exchanged (the same one twice: with none), on the chain 1 -> 2 -> 4, the lone link 5 and the free slot 3; or, with a
+ * side, where rule 11 fails. For a prev, both neighbours of slot 5 are slot 1, which has other ones. For a next, the next of slot 4 is slot 5 besides,
+ * which is the lower fault. */
+static void make(const call *c, uint32_t side, int kind, int i, int j) {
     uint16_t prev[6] = {0, 1, 99, 2, 0, 99}, next[6] = {2, 4, 3, 0, 0, 99}, where_from[6] = {77, 77, 77, 77, 77, 77};
     uint32_t generation[6] = {5, 6, 0, 7, 9, 99}, payload[6] = {10, 20, 99, 40, 50, 99}, header[4] = {5, 4, 3, 11};
     uint32_t first[18], answers[3] = {88, 88, 88};
     memcpy(first, c->first, sizeof first);
-    if (broken) prev[4] = 1;
+    if (side != 0) prev[4] = next[4] = 1;
+    if (side == CHAIN_ARENA_SIDE_NEXT) next[3] = 5;
     arguments a = {{{prev, 6}, {next, 6}, {where_from, 6}},
                    {{generation, 6}, {payload, 6}, {header, 4}, {first, c->lent}, {answers, 3}},
                    {c->slot[0], c->slot[1]},
@@ -171,7 +173,8 @@ int main(int argc, char **argv) {
             if (kind > 3 || i >= calls[k].count[kind] || j >= calls[k].count[kind]) return 2;
         }
         make(&calls[k], 0, kind, i, j);
-        make(&calls[k], 1, kind, i, j);
+        make(&calls[k], CHAIN_ARENA_SIDE_PREV, kind, i, j);
+        make(&calls[k], CHAIN_ARENA_SIDE_NEXT, kind, i, j);
     }
     return 0;
 }

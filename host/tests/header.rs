@@ -102,7 +102,7 @@ fn any_two_fields_exchanged_are_seen() {
     for (name, lines) in calls() {
         let replies = replies(&lines);
         let fields: Vec<&str> = replies[0].iter().map(|(field, _)| *field).collect();
-        assert_eq!(fields[..2], ["number", "broken"], "{name}");
+        assert_eq!(fields[..3], ["number", "broken", "side"], "{name}");
         for (i, j) in (0..fields.len()).flat_map(|j| (0..j).map(move |i| (i, j))) {
             let seen = replies.iter().any(|reply| reply[i].1 != reply[j].1);
             assert_eq!(
@@ -113,6 +113,15 @@ fn any_two_fields_exchanged_are_seen() {
                 fields[j]
             );
         }
+    }
+}
+
+#[test]
+fn every_call_names_the_lowest_slot_and_its_side() {
+    for (name, lines) in calls() {
+        let first: Vec<[&str; 3]> =
+            replies(&lines).iter().map(|reply| [0, 1, 2].map(|k| reply[k].1)).collect();
+        assert_eq!(first, [["0", "0", "0"], ["11", "5", "1"], ["11", "4", "2"]], "{name}");
     }
 }
 
@@ -141,9 +150,10 @@ fn the_header_is_good_in_every_dialect_and_its_numbers_differ() {
         names.map(|name| format!("    case {name}:\n")).collect::<Vec<_>>()
     };
     let codes = [constants("CHAIN_ARENA_COMMAND_"), constants("CHAIN_ARENA_INSERT_")].concat();
-    let numbers: Vec<String> =
-        constants("CHAIN_ARENA_").into_iter().filter(|name| !codes.contains(name)).collect();
-    assert_eq!((numbers.len(), codes.len()), (20, 19));
+    let sides = constants("CHAIN_ARENA_SIDE_");
+    let other = |name: &String| !codes.contains(name) && !sides.contains(name);
+    let numbers: Vec<String> = constants("CHAIN_ARENA_").into_iter().filter(other).collect();
+    assert_eq!((numbers.len(), codes.len(), sides.len()), (20, 19, 2));
     // Two cases of one value are an error, and so is a value that is no constant.
     let known = |name: &str, cases: &[String]| {
         let cases = cases.concat();
@@ -151,8 +161,12 @@ fn the_header_is_good_in_every_dialect_and_its_numbers_differ() {
             "int {name}(uint32_t word);\nint {name}(uint32_t word) {{\n    switch (word) {{\n{cases}        return 1;\n    default:\n        return 0;\n    }}\n}}\n"
         )
     };
-    let program =
-        format!("#include \"chain_arena.h\"\n{}{}", known("is_number", &numbers), known("is_code", &codes));
+    let program = format!(
+        "#include \"chain_arena.h\"\n{}{}{}",
+        known("is_number", &numbers),
+        known("is_code", &codes),
+        known("is_side", &sides)
+    );
     let mut tried = 0;
     for (compiler, dialects) in DIALECTS {
         let source =

@@ -379,7 +379,8 @@ fn rattle_c_and_rust_declare_the_same() {
     let (rattle, header, rust) = (rattle(), read("include/chain_arena.h"), read("host/src/ffi.rs"));
     for call in calls() {
         let exported = of_rust(&rattle, call);
-        assert_eq!(exported.fields[0], ("number".to_string(), "u32".to_string()), "{call}");
+        let first = ["number", "broken", "side"].map(|name| (name.to_string(), "u32".to_string()));
+        assert_eq!(exported.fields[..3], first, "{call}");
         assert_eq!(of_c(&header, call), exported, "{call} in the C header");
         assert_eq!(of_rust(&rust, call), exported, "{call} in host/src/ffi.rs");
     }
@@ -402,6 +403,9 @@ fn an_exchange_of_two_parameters_or_fields_is_found_in_every_export() {
         for of in ["Answer", result(&rattle, call)] {
             plant(&format!("pub struct {of} {{"), "}");
         }
-        assert!(planted >= 3, "{call}: prev and next, generation and payload, number and broken at least");
+        assert!(
+            planted >= 5,
+            "{call}: prev and next, generation and payload, any two of number, broken and side"
+        );
     }
 }

@@ -1,11 +1,11 @@
 //! The numbers are told alike wherever they stand: in the README, in REFERENCE, in the C header's comment and constants, and in `RefusalKind`; and each method
-//! of the wrapper tells in `# Errors` the numbers that the table gives to its call.
+//! of the wrapper tells in `# Errors` the numbers that the table gives to its call. So are the sides, in the C header and in `Side`.
 
 use std::collections::BTreeSet;
 use std::fs;
 use std::path::Path;
 
-use chain_arena::RefusalKind;
+use chain_arena::{RefusalKind, Side};
 
 /// A row of the table: number, name as C has it, meaning, and which calls.
 type Row = (u32, String, String, String);
@@ -115,6 +115,16 @@ fn each_refusal_has_its_kind_and_its_constant() {
     let done: Vec<(u32, String)> =
         constants("CHAIN_ARENA_").into_iter().filter(|(_, name)| !name.contains('_')).collect();
     assert_eq!(done, [(0, "DONE".to_string()), (100, "OVERFLOWED".to_string())]);
+}
+
+#[test]
+fn each_side_has_its_word_and_its_constant() {
+    let sides = [Side::Prev, Side::Next].map(|side| (side as u32, shouted(&format!("{side:?}"))));
+    assert_eq!(sides, [(1, "PREV".to_string()), (2, "NEXT".to_string())]);
+    assert_eq!(constants("CHAIN_ARENA_SIDE_"), sides);
+    let header = read("include/chain_arena.h");
+    let (_, told) = header.split_once(" *   side     ").unwrap();
+    assert!(told.lines().next().unwrap().contains("CHAIN_ARENA_SIDE_..: 1 at the prev, 2 at the next alone"));
 }
 
 #[cfg(feature = "level-two")]

@@ -2,7 +2,8 @@
 
 #[cfg(any(feature = "level-one", feature = "level-two", feature = "level-three"))]
 use chain_arena::Ptr;
-use chain_arena::{Done, OwnedArena, RefusalKind};
+use chain_arena::ffi::PlainResult;
+use chain_arena::{Done, OwnedArena, Refusal, RefusalKind, Side, Slot};
 
 /// The pointer to a slot at generation 5.
 #[cfg(any(feature = "level-one", feature = "level-two", feature = "level-three"))]
@@ -23,6 +24,80 @@ fn sample() -> OwnedArena {
         payload: vec![10, 20, 30, 40, 50],
         header: vec![5, 4, 3, 5],
     }
+}
+
+/// Arenas that the check refuses with each number below 11.
+fn refused_below_11() -> Vec<(u32, OwnedArena)> {
+    let changed = |change: fn(&mut OwnedArena)| {
+        let mut columns = sample();
+        change(&mut columns);
+        columns
+    };
+    // slot 5 is free too, and slot 1 is lone
+    fn two_free(a: &mut OwnedArena) {
+        (a.generation[4], a.next[0], a.header[1]) = (0, 0, 3);
+    }
+    vec![
+        (1, changed(|a| a.header.push(0))),
+        (1, changed(|a| a.payload.truncate(4))),
+        (2, changed(|a| a.header[3] = 1)),
+        (3, changed(|a| a.header[0] = 6)),
+        (4, changed(|a| a.header[1] = 5)),
+        (5, changed(|a| a.header[2] = 0)),
+        (6, changed(|a| a.next[2] = 0)),
+        (7, changed(|a| a.header[2] = 6)),
+        (8, changed(|a| a.header[2] = 1)),
+        (
+            9,
+            changed(|a| {
+                two_free(a);
+                (a.next[2], a.next[4]) = (5, 3);
+            }),
+        ),
+        (10, changed(two_free)),
+    ]
+}
+
+/// Arenas that the check refuses with 11, with the lowest slot at which that rule fails and the side.
+fn broken() -> Vec<(OwnedArena, Slot, Side)> {
+    // The lone links 1 and 5, the closed 2 -> 4 -> (2) and the free slot 3, with some words of prev and of next changed. The
+    // free slot and the one above the stack name slot 5 as far as they can.
+    let changed = |prev: &[(usize, Slot)], next: &[(usize, Slot)]| {
+        let mut columns = OwnedArena {
+            prev: vec![0, 4, 5, 2, 0, 5],
+            next: vec![0, 4, 3, 2, 0, 5],
+            generation: vec![5, 5, 0, 5, 5, 5],
+            payload: vec![10, 20, 30, 40, 50, 60],
+            header: vec![5, 4, 3, 5],
+        };
+        prev.iter().for_each(|&(slot, word)| columns.prev[slot - 1] = word);
+        next.iter().for_each(|&(slot, word)| columns.next[slot - 1] = word);
+        columns
+    };
+    let mut broken = vec![
+        // slot 5 names itself on one side alone
+        (changed(&[(5, 5)], &[]), 5, Side::Prev),
+        (changed(&[], &[(5, 5)]), 5, Side::Next),
+        // slot 2 or slot 4 has lost a neighbour
+        (changed(&[(2, 0)], &[]), 4, Side::Next),
+        (changed(&[(4, 0)], &[]), 2, Side::Next),
+        (changed(&[], &[(2, 0)]), 4, Side::Prev),
+        (changed(&[], &[(4, 0)]), 2, Side::Prev),
+        // two slots or more, at these sides
+        (changed(&[(1, 6), (5, 6)], &[]), 1, Side::Prev),
+        (changed(&[(1, 6)], &[(5, 6)]), 1, Side::Prev),
+        (changed(&[(5, 6)], &[(1, 6)]), 1, Side::Next),
+        (changed(&[], &[(1, 6), (5, 6)]), 1, Side::Next),
+        (changed(&[(4, 6), (5, 6)], &[(5, 6)]), 2, Side::Next),
+        (changed(&[(5, 6)], &[(4, 6), (5, 6)]), 2, Side::Prev),
+    ];
+    // above the stack, where a link seems to be and past the columns; free; a link that has no neighbour there, or another
+    for wrong in [6, 7, Slot::MAX, 3, 1, 2] {
+        broken.push((changed(&[(5, wrong)], &[]), 5, Side::Prev));
+        broken.push((changed(&[], &[(5, wrong)]), 5, Side::Next));
+        broken.push((changed(&[(5, wrong)], &[(5, wrong)]), 5, Side::Prev));
+    }
+    broken
 }
 
 /// The slots of a chain in the order of a walk from a slot, followed by hand.
@@ -64,10 +139,12 @@ fn every_number_has_its_name_and_words() {
     let mut seen = Vec::new();
     for (number, &kind) in (1..).zip(RefusalKind::ALL) {
         assert_eq!((RefusalKind::of(number), kind as u32), (kind, number));
-        let refusal = Done::of(number, 7).unwrap_err();
+        let refusal = PlainResult { number, broken: 7, side: 2 }.done().unwrap_err();
         assert_eq!((refusal.kind(), refusal.number()), (kind, number));
+        let place = (kind == RefusalKind::BrokenLink).then_some((7, Side::Next));
+        assert_eq!((refusal.slot(), refusal.side()), place.unzip());
         let words = refusal.to_string();
-        let place = if kind == RefusalKind::BrokenLink { " at slot 7" } else { "" };
+        let place = if place.is_some() { " at the next of slot 7" } else { "" };
         assert_eq!(words, format!("refused with {number}{place}: {kind}"));
         assert_eq!(format!("{refusal:?}"), words);
         assert!(!seen.contains(&words));
@@ -86,17 +163,141 @@ fn every_number_has_its_name_and_words() {
     }
 }
 
+#[test]
+fn a_side_has_its_word_and_its_name() {
+    assert_eq!([Side::Prev as u32, Side::Next as u32], [1, 2]);
+    assert_eq!([Side::Prev, Side::Next].map(|side| side.to_string()), ["prev", "next"]);
+    for (word, side) in
+        [(0, None), (1, Some(Side::Prev)), (2, Some(Side::Next)), (3, None), (257, None), (u32::MAX, None)]
+    {
+        assert_eq!(Side::of(word), side);
+        let refusal = |broken| PlainResult { number: 11, broken, side: word }.done().unwrap_err();
+        assert_eq!((refusal(7).slot(), refusal(7).side()), (Some(7), side));
+        let place = side.map_or("at slot 7".to_string(), |side| format!("at the {side} of slot 7"));
+        assert_eq!(refusal(7).to_string(), format!("refused with 11 {place}: {}", RefusalKind::BrokenLink));
+        // a word that is no slot
+        for none in [0, 1 << 16, u32::MAX] {
+            assert_eq!((refusal(none).slot(), refusal(none).side()), (None, side));
+            assert_eq!(refusal(none).to_string(), format!("refused with 11: {}", RefusalKind::BrokenLink));
+        }
+    }
+    for number in [0, 100] {
+        let done = PlainResult { number, broken: 7, side: 1 }.done();
+        assert_eq!(done, Ok(Done { overflowed: number == 100 }));
+    }
+    // the answer word of a command comes without a slot
+    let refusal = Done::answer(11).unwrap_err();
+    assert_eq!((refusal.kind(), refusal.slot(), refusal.side()), (RefusalKind::BrokenLink, None, None));
+}
+
+/// Calls by their names, and what each was refused with.
+type Refused = Vec<(&'static str, Refusal)>;
+
+/// Makes the calls of a level on an arena that the check refuses.
+type Calls = fn(&mut OwnedArena) -> Refused;
+
+/// What every call that is linked is refused with on an arena that the check refuses. Nothing is written.
+fn refusals(arena: &OwnedArena) -> Refused {
+    let linked: &[(&str, Calls)] = &[
+        #[cfg(feature = "level-one")]
+        ("level_one", level_one::refusals),
+        #[cfg(feature = "level-two")]
+        ("level_two", level_two::refusals),
+        #[cfg(feature = "level-three")]
+        ("level_three", level_three::refusals),
+    ];
+    let mut all = Vec::new();
+    for (name, calls) in linked {
+        let mut columns = arena.clone();
+        let refused = calls(&mut columns);
+        assert_eq!(columns, *arena, "{name}");
+        let level = crate::sold::LEVELS.iter().find(|level| level.name == *name).unwrap();
+        let tried = |export: &str| refused.iter().any(|(call, _)| export == format!("chain_arena_{call}"));
+        assert!(level.exports.iter().all(|export| tried(export)), "a call of {name} is not tried");
+        all.extend(refused);
+    }
+    all
+}
+
+#[test]
+fn every_call_names_the_lowest_slot_at_which_rule_11_fails_and_the_side() {
+    for (arena, slot, side) in broken() {
+        for (call, refusal) in refusals(&arena) {
+            let named = (refusal.number(), refusal.slot(), refusal.side());
+            assert_eq!(named, (11, Some(slot), Some(side)), "{call} of {arena:?}");
+            let place = format!("refused with 11 at the {side} of slot {slot}: ");
+            assert!(refusal.to_string().starts_with(&place), "{call}: {refusal}");
+        }
+    }
+}
+
+#[test]
+fn every_call_names_the_rule_that_fails_and_below_11_no_slot() {
+    for (number, arena) in refused_below_11() {
+        for (call, refusal) in refusals(&arena) {
+            let named = (refusal.number(), refusal.slot(), refusal.side());
+            assert_eq!(named, (number, None, None), "{call} of {arena:?}");
+        }
+    }
+}
+
+#[test]
+fn what_a_call_refuses_of_its_own_names_no_slot() {
+    let refusals: &[Vec<Refusal>] = &[
+        #[cfg(feature = "level-one")]
+        level_one::own_refusals(),
+        #[cfg(feature = "level-two")]
+        level_two::own_refusals(),
+        #[cfg(feature = "level-three")]
+        level_three::own_refusals(),
+    ];
+    for refusal in refusals.iter().flatten() {
+        assert!(refusal.number() > 11, "{refusal}");
+        assert_eq!((refusal.slot(), refusal.side()), (None, None), "{refusal}");
+        assert_eq!(refusal.to_string(), format!("refused with {}: {}", refusal.number(), refusal.kind()));
+    }
+}
+
 #[cfg(feature = "level-one")]
 mod level_one {
-    use chain_arena::{Chain, Link, LinkNoGen, Refusal, Walk};
+    use chain_arena::{Chain, Link, LinkNoGen, Walk};
 
     use super::*;
 
-    /// The refusal of a sample with something changed.
-    fn refusal(change: impl FnOnce(&mut OwnedArena)) -> Refusal {
-        let mut columns = sample();
-        change(&mut columns);
-        columns.as_arena().check().unwrap_err()
+    /// What every call of the level, and every method that is made of them, is refused with on an arena that the check refuses.
+    pub fn refusals(columns: &mut OwnedArena) -> Refused {
+        let mut walk = Walk { start: 5, position: 5, direction: 0, left: 4 };
+        let (kept, arena) = (walk, columns.as_arena());
+        let refusals = vec![
+            ("check", arena.check().unwrap_err()),
+            ("get_link", arena.get_link(p(5)).unwrap_err()),
+            ("get_link_no_gen", arena.get_link_no_gen(p(5)).unwrap_err()),
+            ("are_neighbors", arena.are_neighbors(p(5), p(1)).unwrap_err()),
+            ("walk_start", arena.walk_start(p(5)).unwrap_err()),
+            ("walk_step", walk.step(&arena).unwrap_err()),
+            ("walk", arena.walk(p(5)).unwrap_err()),
+            ("walk_from", arena.walk_from(walk).unwrap_err()),
+            ("checked", arena.checked().unwrap_err()),
+            ("checked, owned", columns.checked().unwrap_err()),
+            ("checked, to edit", columns.as_arena_mut().checked().unwrap_err()),
+        ];
+        assert_eq!(walk, kept);
+        refusals
+    }
+
+    /// What is refused of the calls' own on a whole arena.
+    pub fn own_refusals() -> Vec<Refusal> {
+        let columns = sample();
+        let arena = columns.as_arena();
+        let checked = arena.checked().unwrap();
+        vec![
+            arena.get_link(STALE).unwrap_err(),
+            arena.get_link_no_gen(STALE).unwrap_err(),
+            arena.walk_start(STALE).unwrap_err(),
+            arena.walk(STALE).unwrap_err(),
+            checked.link(STALE).unwrap_err(),
+            checked.chain(STALE).unwrap_err(),
+        ]
     }
 
     #[test]
@@ -115,29 +316,14 @@ mod level_one {
     }
 
     #[test]
-    fn each_rule_of_the_check_is_named() {
-        assert_eq!(refusal(|a| a.header.push(0)).number(), 1);
-        assert_eq!(refusal(|a| a.payload.truncate(4)).number(), 1);
-        assert_eq!(refusal(|a| a.header[3] = 1).number(), 2);
-        assert_eq!(refusal(|a| a.header[0] = 6).number(), 3);
-        assert_eq!(refusal(|a| a.header[1] = 5).number(), 4);
-        assert_eq!(refusal(|a| a.header[2] = 0).number(), 5);
-        assert_eq!(refusal(|a| a.next[2] = 0).number(), 6);
-        assert_eq!(refusal(|a| a.header[2] = 6).number(), 7);
-        assert_eq!(refusal(|a| a.header[2] = 1).number(), 8);
-        let two_free = |a: &mut OwnedArena| {
-            a.generation[4] = 0;
-            a.next[0] = 0;
-            a.header[1] = 3;
-        };
-        let round = refusal(|a| {
-            two_free(a);
-            (a.next[2], a.next[4]) = (5, 3);
-        });
-        assert_eq!(round.number(), 9);
-        assert_eq!(refusal(two_free).number(), 10);
-        let broken = refusal(|a| a.next[0] = 0);
-        assert_eq!((broken.number(), broken.slot()), (11, Some(5)));
+    fn the_highest_slot_can_be_named() {
+        let length = usize::from(Slot::MAX);
+        let mut columns = OwnedArena::empty(length);
+        columns.generation.fill(5);
+        columns.header = vec![length as u32, length as u32, 0, 5];
+        columns.next[length - 1] = 1;
+        let refusal = columns.as_arena().check().unwrap_err();
+        assert_eq!((refusal.slot(), refusal.side()), (Some(Slot::MAX), Some(Side::Next)));
     }
 
     #[test]
@@ -270,6 +456,55 @@ mod level_two {
     use chain_arena::{Answer, Command, DrainedLink, Full, LinkInsertKind, LinkNoGen, Removed, Run};
 
     use super::*;
+
+    /// What every call of the level, and a run, is refused with on an arena that the check refuses.
+    pub fn refusals(columns: &mut OwnedArena) -> Refused {
+        let (mut words, mut answers, mut report) = ([[9; Command::WORDS]; 1], [9; 1], [9; 25]);
+        let mut run = Run::new(&mut words, &mut answers);
+        run.remove(p(5)).unwrap();
+        let mut arena = columns.as_arena_mut();
+        vec![
+            ("connect", arena.connect(p(5), p(1)).unwrap_err()),
+            ("break_prev", arena.break_prev(p(5)).unwrap_err()),
+            ("break_next", arena.break_next(p(5)).unwrap_err()),
+            ("exchange_next", arena.exchange_next(p(2), p(4)).unwrap_err()),
+            ("insert", arena.insert(LinkInsertKind::Disconnected, 77).unwrap_err()),
+            ("remove", arena.remove(p(5)).unwrap_err()),
+            ("drain", arena.drain(p(5), &mut report).unwrap_err()),
+            ("set_generation", arena.set_generation(7).unwrap_err()),
+            ("inc_generation", arena.inc_generation().unwrap_err()),
+            ("canonicalize_freelist", arena.canonicalize_freelist().unwrap_err()),
+            ("run", arena.run_words(&Command::Remove(p(5)).words(), &mut [9]).unwrap_err()),
+            ("run, of commands", arena.run(&mut run).unwrap_err()),
+        ]
+    }
+
+    /// What is refused of the calls' own on a whole arena, and of commands.
+    pub fn own_refusals() -> Vec<Refusal> {
+        let (mut words, mut answers) = ([[9; Command::WORDS]; 4], [9; 4]);
+        let mut run = Run::new(&mut words, &mut answers);
+        run.remove(STALE).unwrap().break_prev(p(1)).unwrap();
+        run.insert(LinkInsertKind::ChainEnd(p(1)), 77).unwrap().break_next(p(5)).unwrap();
+        let mut columns = sample();
+        let mut arena = columns.as_arena_mut();
+        let mut refusals = vec![
+            arena.connect(STALE, p(1)).unwrap_err(),
+            arena.connect(p(1), p(5)).unwrap_err(),
+            arena.break_prev(p(1)).unwrap_err(),
+            arena.break_next(p(5)).unwrap_err(),
+            arena.exchange_next(p(1), p(5)).unwrap_err(),
+            arena.insert(LinkInsertKind::ChainEnd(p(1)), 77).unwrap_err(),
+            arena.remove(STALE).unwrap_err(),
+            arena.drain(STALE, &mut []).unwrap_err(),
+            arena.drain(p(5), &mut []).unwrap_err(),
+            arena.set_generation(1).unwrap_err(),
+            arena.run_words(&[1], &mut []).unwrap_err(),
+            arena.run_words(&[1; Command::WORDS], &mut []).unwrap_err(),
+            OwnedArena::empty(0).as_arena_mut().insert(LinkInsertKind::Disconnected, 77).unwrap_err(),
+        ];
+        refusals.extend(arena.run(&mut run).unwrap().map(|answer| answer.result.unwrap_err()));
+        refusals
+    }
 
     #[test]
     fn edits() {
@@ -588,7 +823,7 @@ mod level_two {
         let before = broken.clone();
         for kind in [ALONE, chain_end(STALE)].as_flattened() {
             let refusal = broken.as_arena_mut().insert(*kind, 77).unwrap_err();
-            assert_eq!((refusal.kind(), refusal.slot()), (RefusalKind::BrokenLink, Some(5)));
+            assert_eq!((refusal.slot(), refusal.side()), (Some(5), Some(Side::Prev)));
         }
         assert_eq!(broken, before);
     }
@@ -663,7 +898,7 @@ mod level_two {
         for kind in [0, 1, 5, 20, 262, u32::MAX] {
             for before in [&sample(), &full] {
                 let mut columns = before.clone();
-                let refused = InsertResult { number: 16, broken: 0, slot: 0, generation: 0 };
+                let refused = InsertResult { number: 16, broken: 0, side: 0, slot: 0, generation: 0 };
                 assert_eq!(insert_words(&mut columns, kind, p(1), p(5)), refused, "{kind}");
                 assert_eq!(columns, *before);
             }
@@ -695,7 +930,8 @@ mod level_two {
                 });
                 let mut columns = sample();
                 let answer = insert_words(&mut columns, code, a, b);
-                assert_eq!(answer, InsertResult { number: 0, broken: 0, slot: 3, generation: 5 }, "{kind:?}");
+                let expected = InsertResult { number: 0, broken: 0, side: 0, slot: 3, generation: 5 };
+                assert_eq!(answer, expected, "{kind:?}");
                 assert_eq!(columns, inserted(&sample(), *kind).1, "{kind:?}");
             }
         }
@@ -859,6 +1095,26 @@ mod level_three {
     use chain_arena::{CompressedCanonical, Moved, NewGeneration};
 
     use super::*;
+
+    /// What every call of the level is refused with on an arena that the check refuses.
+    pub fn refusals(columns: &mut OwnedArena) -> Refused {
+        let (mut report, mut from) = ([9; 25], vec![9; columns.capacity()]);
+        let mut arena = columns.as_arena_mut();
+        vec![
+            ("compress_with", arena.compress_with(NewGeneration::Next, &mut report).unwrap_err()),
+            ("compress_canonical", arena.compress_canonical(NewGeneration::Next, &mut from).unwrap_err()),
+        ]
+    }
+
+    /// What is refused of the calls' own on a whole arena.
+    pub fn own_refusals() -> Vec<Refusal> {
+        let mut columns = sample();
+        let mut arena = columns.as_arena_mut();
+        vec![
+            arena.compress_with(NewGeneration::Next, &mut []).unwrap_err(),
+            arena.compress_canonical(NewGeneration::Next, &mut []).unwrap_err(),
+        ]
+    }
 
     #[test]
     fn the_generation_is_raised_unless_it_is_to_be_reset() {

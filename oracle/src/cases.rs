@@ -11,6 +11,16 @@ pub const COUNTS: [usize; 7] = [1, 3, 13, 73, 501, 4_051, 37_633];
 /// 100 and the slot, and words that nobody looks at are 0.
 pub fn small_arenas(length: usize) -> Vec<Arena> {
     let mut arenas = Vec::new();
+    for mut a in lone_arenas(length) {
+        let links: Vec<usize> = a.link_slots().collect();
+        each_chaining(&mut a, &links, &links, &mut arenas);
+    }
+    arenas
+}
+
+/// Those of them whose links are all lone: links and free slots anywhere, and the freelist in every order.
+fn lone_arenas(length: usize) -> Vec<Arena> {
+    let mut arenas = Vec::new();
     for links in 0..1 << length {
         let (links, free): (Vec<usize>, Vec<usize>) = (1..=length).partition(|s| links >> (s - 1) & 1 == 1);
         let mut a = Arena::empty(length);
@@ -19,7 +29,7 @@ pub fn small_arenas(length: usize) -> Vec<Arena> {
             a.generation[s - 1] = 5;
             a.payload[s - 1] = 100 + s as u32;
         }
-        each_freelist(&mut a, &free, 0, &mut |a| each_chaining(a, &links, &links, &mut arenas));
+        each_freelist(&mut a, &free, 0, &mut |a| arenas.push(a.clone()));
     }
     arenas
 }
@@ -141,6 +151,52 @@ pub fn each_tuple(length: usize, room: usize, slots: usize, mut found: impl FnMu
 pub fn slot_tuples(length: usize) -> usize {
     let words = length + 2;
     (2 * words * words).pow(length as u32)
+}
+
+/// Arenas of some stack lengths whose freelist and counts are right: each link's prev and next, and the prev of each free
+/// slot, which nobody reads, are any words from 0 to the stack length and 1. So rule 11 alone can fail.
+pub struct Interlinked {
+    /// The arenas of lone links that they are made from, each with the number of arenas that are made from those before it
+    lone: Vec<(usize, Arena)>,
+    /// How many there are
+    pub count: usize,
+}
+
+impl Interlinked {
+    /// Those of the stack lengths 1 to the longest, from the shortest on.
+    pub fn up_to(longest: usize) -> Self {
+        let mut all = Self { lone: Vec::new(), count: 0 };
+        for a in (1..=longest).flat_map(lone_arenas).filter(|a| a.links() > 0) {
+            let words = a.stack() + a.links();
+            let arenas = (a.stack() + 2).pow(words as u32);
+            all.lone.push((all.count, a));
+            all.count += arenas;
+        }
+        all
+    }
+
+    /// The one of a number below the count.
+    pub fn nth(&self, number: usize) -> Arena {
+        let (before, a) = &self.lone[self.lone.partition_point(|(before, _)| *before <= number) - 1];
+        let (mut a, mut rest) = (a.clone(), number - before);
+        for place in 0..a.stack() {
+            let columns = [Some(&mut a.prev), Some(&mut a.next).filter(|_| a.generation[place] != 0)];
+            for column in columns.into_iter().flatten() {
+                column[place] = (rest % (column.len() + 2)) as u16;
+                rest /= column.len() + 2;
+            }
+        }
+        a
+    }
+}
+
+/// The arena with one slot above its stack that looks like a neighbour of slot `s` on both sides.
+pub fn with_false_neighbour(mut a: Arena, s: usize) -> Arena {
+    a.prev.push(s as u16);
+    a.next.push(s as u16);
+    a.generation.push(5);
+    a.payload.push(0);
+    a
 }
 
 /// Pointers to slots 0 to the stack length and 1: with the generation there, with another, and with 0.

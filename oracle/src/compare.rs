@@ -3,7 +3,9 @@
 use std::fmt;
 use std::io::{Write, stderr};
 
-use crate::{Arena, Call, Reply, exports, model, wrapper};
+#[cfg(crate_text)]
+use crate::Reading;
+use crate::{Arena, Call, Reply, exports, model, show, side, wrapper};
 
 /// What a call leaves: its reply, the slices that it was lent, and the arena.
 #[derive(Clone, Debug, PartialEq, Eq)]
@@ -60,11 +62,22 @@ pub struct Counts {
     pub with_exports: u64,
     /// Cases by the model's number, 0 to 18 and 100
     pub numbers: [u64; 101],
+    /// Cases with 11 whose slot is broken at its prev, and at its next alone
+    pub sides: [u64; 2],
+    /// Cases with 11 whose slot and side the crate's text was asked for
+    pub places_with_crate: u64,
 }
 
 impl Default for Counts {
     fn default() -> Self {
-        Self { cases: 0, with_crate: 0, with_exports: 0, numbers: [0; 101] }
+        Self {
+            cases: 0,
+            with_crate: 0,
+            with_exports: 0,
+            numbers: [0; 101],
+            sides: [0; 2],
+            places_with_crate: 0,
+        }
     }
 }
 
@@ -84,9 +97,11 @@ impl fmt::Display for Counts {
 
 impl Counts {
     /// Counts a case and what it must answer.
-    pub fn count(&mut self, number: u32) {
+    pub fn count(&mut self, reply: &Reply) {
         self.cases += 1;
-        self.numbers[number as usize] += 1;
+        self.numbers[reply.number as usize] += 1;
+        self.sides[0] += u64::from(reply.side == side::PREV);
+        self.sides[1] += u64::from(reply.side == side::NEXT);
     }
 
     /// Adds what was counted elsewhere.
@@ -94,7 +109,9 @@ impl Counts {
         self.cases += other.cases;
         self.with_crate += other.with_crate;
         self.with_exports += other.with_exports;
-        for (count, more) in self.numbers.iter_mut().zip(other.numbers) {
+        self.places_with_crate += other.places_with_crate;
+        let counts = self.numbers.iter_mut().chain(&mut self.sides);
+        for (count, more) in counts.zip(other.numbers.iter().chain(&other.sides)) {
             *count += more;
         }
     }
@@ -152,6 +169,54 @@ pub fn crate_number(_: &Arena) -> Option<u32> {
     None
 }
 
+/// The slot and the side at which the crate's check finds rule 11 to fail, if its types can hold the arena and it has few
+/// enough slots to ask for. The check names neither, so it is asked about one side of one slot at a time: slot by slot, prev
+/// before next, of an arena that has no other interlink. The first that it refuses is the place.
+#[cfg(crate_text)]
+pub fn crate_place(a: &Arena) -> Option<(u32, u32)> {
+    if a.stack() > SLOTS_ASKED_FOR {
+        return None;
+    }
+    let places = a.link_slots().flat_map(|s| [(s, side::PREV), (s, side::NEXT)]);
+    for (s, side) in places {
+        if crate_number(&with_one_interlink(a, s, side))? == 11 {
+            return Some((s as u32, side));
+        }
+    }
+    Some((0, 0))
+}
+
+/// The crate's text is not at hand.
+#[cfg(not(crate_text))]
+pub fn crate_place(_: &Arena) -> Option<(u32, u32)> {
+    None
+}
+
+/// The most slots of an arena that the crate is asked for its broken place: it makes two checks a slot.
+#[cfg(crate_text)]
+const SLOTS_ASKED_FOR: usize = 12;
+
+/// The arena with 0 for the prev and next of every link, but for what slot `s` names on a side and what its neighbour there
+/// names on the other: the crate's check passes on it exactly if rule 11 holds at that side of `s`.
+#[cfg(crate_text)]
+fn with_one_interlink(a: &Arena, s: usize, side: u32) -> Arena {
+    let mut alone = a.clone();
+    for s in a.link_slots() {
+        (alone.prev[s - 1], alone.next[s - 1]) = (0, 0);
+    }
+    let (named, back, old_named, old_back) = if side == side::PREV {
+        (&mut alone.prev, &mut alone.next, &a.prev, &a.next)
+    } else {
+        (&mut alone.next, &mut alone.prev, &a.next, &a.prev)
+    };
+    let neighbour = old_named[s - 1] as usize;
+    named[s - 1] = old_named[s - 1];
+    if a.is_link(neighbour) {
+        back[neighbour - 1] = old_back[neighbour - 1];
+    }
+    alone
+}
+
 /// What the exported call leaves on copies that are exactly as long as what is lent, if it is exported.
 pub fn export_outcome(before: &Arena, call: &Call) -> Option<Answer> {
     let (mut arena, mut call) = (before.clone(), call.clone());
@@ -166,18 +231,6 @@ pub fn wrapper_outcome(before: &Arena, call: &Call) -> Option<Outcome> {
     Some(Outcome { reply, call, arena })
 }
 
-/// Whether an outcome is the model's, but for the slot that 11 names: there rule 11 must fail.
-pub fn agrees(before: &Arena, model: &Outcome, other: &Outcome) -> bool {
-    if model.reply.number != 11 {
-        return model == other;
-    }
-    let named = Reply { broken: other.reply.broken, ..model.reply };
-    named == other.reply
-        && model::rule11_fails(before, other.reply.broken)
-        && model.call == other.call
-        && model.arena == other.arena
-}
-
 /// Makes one call all three ways and answers what the model leaves. A refused call must leave every word as it was, and a
 /// call that writes an arena that passes the exported check.
 pub fn compare(
@@ -187,7 +240,7 @@ pub fn compare(
     counts: &mut Counts,
 ) -> Result<Outcome, Box<Mismatch>> {
     let expected = model_outcome(before, call);
-    counts.count(expected.reply.number);
+    counts.count(&expected.reply);
     let parted = asked_product(product, before, call, &expected, counts)
         .or_else(|| asked_crate(before, call, &expected, counts));
     match parted {
@@ -213,7 +266,7 @@ fn asked_product(
     let Ok(found) = &answer else {
         return Some(("export", answer));
     };
-    if !agrees(before, expected, found) {
+    if found != expected {
         return Some(("export", answer));
     }
     let refused = !matches!(found.reply.number, 0 | 100);
@@ -227,7 +280,8 @@ fn asked_product(
 }
 
 /// Holds the crate's text to what the model leaves. On an arena that does not pass, the crate has its check and no other
-/// call.
+/// call. That check names no slot: with 11 the number is compared with the crate's, and slot and side are the model's, to which
+/// the product is held word by word. If the arena is small, `crate_place` confirms them.
 fn asked_crate(before: &Arena, call: &Call, expected: &Outcome, counts: &mut Counts) -> Parted {
     if !(1..=11).contains(&expected.reply.number) {
         let found = crate_outcome(before, call)?;
@@ -239,7 +293,19 @@ fn asked_crate(before: &Arena, call: &Call, expected: &Outcome, counts: &mut Cou
     }
     let number = crate_number(before)?;
     counts.with_crate += 1;
-    (number != expected.reply.number).then(|| ("crate", Err(format!("its check says {number}"))))
+    if number != expected.reply.number {
+        return Some(("crate", Err(format!("its check says {number}"))));
+    }
+    if number != 11 {
+        return None;
+    }
+    let place = crate_place(before)?;
+    counts.places_with_crate += 1;
+    let said = || match show::place(place.0, place.1) {
+        none if none.is_empty() => "its check of one side at a time passes on all".to_string(),
+        place => format!("its check of one side at a time fails first{place}"),
+    };
+    (place != (expected.reply.broken, expected.reply.side)).then(|| ("crate", Err(said())))
 }
 
 /// A crate arena that lives through a sequence of calls.

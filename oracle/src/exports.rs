@@ -22,7 +22,7 @@ macro_rules! call {
                 $($argument),*
             )
         };
-        Reply { broken: answer.broken, ..Reply::new(answer.number, &[$(answer.$word),*]) }
+        Reply { broken: answer.broken, side: answer.side, ..Reply::new(answer.number, &[$(answer.$word),*]) }
     }};
 }
 

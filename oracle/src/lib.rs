@@ -37,6 +37,14 @@ pub mod header {
     pub const GENERATION: usize = 3;
 }
 
+/// The sides of a link, as the word `side` names them.
+pub mod side {
+    /// Its prev
+    pub const PREV: u32 = 1;
+    /// Its next
+    pub const NEXT: u32 = 2;
+}
+
 /// How many words a command of a run has: a code, the slots and generations of two pointers, a payload.
 pub const COMMAND_WORDS: usize = 6;
 
@@ -180,14 +188,16 @@ impl Call {
     }
 }
 
-/// What a call answers: its number, with 11 a broken link, and the further words in the order of the exported struct, those
-/// that it does not have being 0.
+/// What a call answers: its number, with 11 where rule 11 fails, and the further words in the order of the exported struct,
+/// those that it does not have being 0.
 #[derive(Clone, Copy, Debug, Default, PartialEq, Eq)]
 pub struct Reply {
     /// 0: done, 100: done, and the generation overflowed, any other: refused, and why (REFERENCE, Numbers)
     pub number: u32,
-    /// With 11 a link at which rule 11 fails, else 0
+    /// With 11 the lowest slot at which rule 11 fails, else 0
     pub broken: u32,
+    /// With 11 the side of that slot on which it fails, the prev if it does so on both; else 0
+    pub side: u32,
     /// The call's further words
     pub words: [u32; 6],
 }

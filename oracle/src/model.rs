@@ -2,7 +2,7 @@
 //! crate does not tell, as 12 from 13.
 
 use crate::header::{GENERATION, LINKS, ROOT, STACK};
-use crate::{Arena, COMMAND_WORDS, Call, LIMIT, Ptr, Reading, Reply, Walk, kind};
+use crate::{Arena, COMMAND_WORDS, Call, LIMIT, Ptr, Reading, Reply, Walk, kind, side};
 
 /// Makes one call, which begins with the check (REFERENCE, Replies).
 pub fn perform(a: &mut Arena, call: &mut Call) -> Reply {
@@ -33,17 +33,15 @@ pub fn perform(a: &mut Arena, call: &mut Call) -> Reply {
     }
 }
 
-/// The reply of a call on an arena that the check refuses: with 11 a link is named, and a step answers its state as it got
-/// it.
+/// The reply of a call on an arena that the check refuses: with 11 it says where rule 11 fails, and a step answers its state
+/// as it got it.
 fn refused(a: &Arena, number: u32, call: &Call) -> Reply {
-    let mut reply = match call {
+    let reply = match call {
         Call::WalkStep(walk) => step_reply(number, None, *walk),
         _ => Reply::number(number),
     };
-    if number == 11 {
-        reply.broken = (1..=a.header[STACK]).find(|&s| rule11_fails(a, s)).unwrap_or(0);
-    }
-    reply
+    let (broken, side) = if number == 11 { broken_place(a).expect("rule 11 fails") } else { (0, 0) };
+    Reply { broken, side, ..reply }
 }
 
 // REFERENCE, Check
@@ -73,7 +71,7 @@ pub fn check(a: &Arena) -> u32 {
     if number != 0 {
         return number;
     }
-    if (1..=a.header[STACK]).any(|s| rule11_fails(a, s)) { 11 } else { 0 }
+    if broken_places(a).next().is_some() { 11 } else { 0 }
 }
 
 /// The visits to the freelist from the root on, rules 6 to 10, where `free` slots are free.
@@ -98,17 +96,21 @@ fn freelist(a: &Arena, free: usize) -> u32 {
     9
 }
 
-/// Whether rule 11 fails at slot `s`: it is a link, and one of its neighbours is no link or does not name it in turn.
-pub fn rule11_fails(a: &Arena, s: u32) -> bool {
-    let s = s as usize;
-    if !a.is_link(s) {
-        return false;
-    }
-    let before = a.prev[s - 1] as usize;
-    let after = a.next[s - 1] as usize;
-    let bad_before = before != 0 && !(a.is_link(before) && a.next[before - 1] as usize == s);
-    let bad_after = after != 0 && !(a.is_link(after) && a.prev[after - 1] as usize == s);
-    bad_before || bad_after
+/// Every place at which rule 11 fails, a slot and a side: of all links those whose prev is neither 0 nor a link with them as
+/// its next, then those whose next is neither 0 nor a link with them as its prev.
+pub fn broken_places(a: &Arena) -> impl Iterator<Item = (u32, u32)> {
+    let failing = |named: &[u16], back: &[u16], x: usize| {
+        let neighbour = named[x - 1] as usize;
+        neighbour != 0 && !(a.is_link(neighbour) && back[neighbour - 1] as usize == x)
+    };
+    let prevs = a.link_slots().filter(move |&x| failing(&a.prev, &a.next, x));
+    let nexts = a.link_slots().filter(move |&x| failing(&a.next, &a.prev, x));
+    prevs.map(|x| (x as u32, side::PREV)).chain(nexts.map(|x| (x as u32, side::NEXT)))
+}
+
+/// The place that 11 names, if rule 11 fails: of all these places the one of the lowest slot, and of its two the prev.
+pub fn broken_place(a: &Arena) -> Option<(u32, u32)> {
+    broken_places(a).min()
 }
 
 // REFERENCE, Reading

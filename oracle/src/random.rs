@@ -320,6 +320,94 @@ fn damage_shape(r: &mut Random, a: &mut Arena) {
     }
 }
 
+/// Where the links of a stack are that are broken.
+#[derive(Clone, Copy, PartialEq, Eq)]
+pub enum Near {
+    /// Among the first
+    First,
+    /// Among the last, and no other link with them
+    Last,
+    /// The last alone
+    LastAlone,
+    /// Anywhere, at both ends too
+    Anywhere,
+}
+
+/// An arena of so many slots, at least one, that rule 11 alone refuses: of its links one, two or many are broken.
+pub fn with_broken_links(r: &mut Random, stack: usize, near: Near) -> Arena {
+    loop {
+        let style = Style { free: r.pick(&[0, 0, 1, 4, 8]), ..Style::random(r, stack) };
+        let room = r.pick(&[0, 0, 1, 2, 5]).min(LIMIT - stack);
+        let mut a = whole(r, stack + room, stack, style);
+        let links: Vec<usize> = a.link_slots().collect();
+        let count = match near {
+            Near::LastAlone => 1,
+            _ => r.pick(&[1, 1, 1, 2, 2, 3, 1 + links.len() / 2]),
+        };
+        for _ in 0..count.min(links.len()) {
+            let (last, anywhere) = (links.len() - 1, r.below(links.len()));
+            let few = r.below(3).min(last);
+            let place = match near {
+                Near::First => few,
+                Near::Last => last - few,
+                Near::LastAlone => last,
+                Near::Anywhere => r.pick(&[0, last, anywhere]),
+            };
+            let parted = matches!(near, Near::Last | Near::LastAlone) || r.once_in(2);
+            break_link(r, &mut a, links[place], parted);
+        }
+        if model::check(&a) == 11 {
+            return a;
+        }
+    }
+}
+
+/// Makes a link name on one side a slot that is above the stack or free, or a link that names another one or none in turn,
+/// if there is such a slot. If the link had a neighbour on that side, that one is broken too, or the two are parted before.
+/// Where nobody looks, above the stack and at the prev of a free slot, stands what would be right if the slot were a link.
+fn break_link(r: &mut Random, a: &mut Arena, s: usize, parted: bool) {
+    let by_prev = r.once_in(2);
+    if parted {
+        part(a, s, by_prev);
+    }
+    let (stack, way) = (a.stack(), r.below(4));
+    let target = match way {
+        0 => r.pick(&[stack + 1, stack + 1, stack + 2, LIMIT]).max(stack + 1),
+        1 => some_slot_of(r, a, true),
+        _ => {
+            let back = if by_prev { &a.next } else { &a.prev };
+            let wanted = |t: &usize| match back[t - 1] as usize {
+                0 => way == 2,
+                named => way == 3 && named != s,
+            };
+            let first = some_slot(r, a);
+            (first..=stack).chain(1..first).filter(|&t| a.is_link(t)).find(wanted).unwrap_or(0)
+        }
+    };
+    if target == 0 || target > LIMIT {
+        return;
+    }
+    let (named, back) = if by_prev { (&mut a.prev, &mut a.next) } else { (&mut a.next, &mut a.prev) };
+    named[s - 1] = target as u16;
+    if target > stack && target <= back.len() {
+        back[target - 1] = s as u16;
+        a.generation[target - 1] = r.pick(&[0, 5, 5]);
+    } else if way == 1 && !by_prev {
+        back[target - 1] = s as u16;
+    }
+}
+
+/// Parts a link from its neighbour on a side, if that one names it in turn.
+fn part(a: &mut Arena, s: usize, by_prev: bool) {
+    let neighbour = if by_prev { a.prev[s - 1] } else { a.next[s - 1] } as usize;
+    let is_link = a.is_link(neighbour);
+    let (named, back) = if by_prev { (&mut a.prev, &mut a.next) } else { (&mut a.next, &mut a.prev) };
+    if is_link && back[neighbour - 1] as usize == s {
+        back[neighbour - 1] = 0;
+        named[s - 1] = 0;
+    }
+}
+
 /// A whole arena with one to three things damaged.
 pub fn damaged(r: &mut Random, most: usize) -> Arena {
     let a = any_whole(r, most);

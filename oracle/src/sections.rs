@@ -6,9 +6,9 @@ use std::collections::HashSet;
 use crate::calls::{Tide, each_call, keep, mixed_commands, mixed_edits, some_call, some_commands, some_walk};
 use crate::cases;
 use crate::compare::{Counts, Live, Mismatch, Outcome, Product, compare, model_outcome};
-use crate::random::{self, Random, Style};
+use crate::random::{self, Near, Random, Style};
 use crate::runner::{Jobs, Judge};
-use crate::{Arena, COMMAND_WORDS, Call, LIMIT, Ptr, Reading, Walk, demand3, kind};
+use crate::{Arena, COMMAND_WORDS, Call, LIMIT, Ptr, Reading, Walk, demand3, kind, model};
 
 /// The short form is for every run of the gate, the long one for once.
 #[derive(Clone, Copy, PartialEq, Eq)]
@@ -36,7 +36,7 @@ pub struct Section {
 }
 
 /// All sections, of all three levels.
-pub const SECTIONS: [Section; 18] = [
+pub const SECTIONS: [Section; 20] = [
     Section {
         name: "tuples",
         what: "the check on every tuple of words of stack length 0 to 3, at two capacities",
@@ -144,6 +144,18 @@ pub const SECTIONS: [Section; 18] = [
         what: "each damaged arena through every call, and a step of any state words before the damage",
         numbers: &[0, 1, 2, 3, 4, 5, 6, 7, 8, 9, 10, 11],
         jobs: |form| damage(form.of(200_000, 10_000_000)),
+    },
+    Section {
+        name: "small_broken",
+        what: "every small arena that rule 11 alone refuses, through every call",
+        numbers: &[11],
+        jobs: small_broken,
+    },
+    Section {
+        name: "random_broken",
+        what: "random arenas of up to 65,535 slots with one, two or many broken links, through every call",
+        numbers: &[11],
+        jobs: |form| random_broken(form.of(20_000, 400_000)),
     },
 ];
 
@@ -287,6 +299,50 @@ fn damage(arenas: usize) -> Jobs {
         };
         judge.hold(&whole, &Call::WalkStep(some_walk(r, &whole, &[])));
         let a = random::broken(r, &whole);
+        for call in each_call(r, &a) {
+            judge.hold(&a, &call);
+        }
+    })
+}
+
+/// Every call on every arena of up to three slots that rule 11 alone refuses, with no room above the stack; and if a link
+/// names the slot above it, with a slot there that looks like its neighbour, in the long form like a neighbour of each slot.
+/// The long form has those of four slots too, once each.
+fn small_broken(form: Form) -> Jobs {
+    let arenas = cases::Interlinked::up_to(form.of(3, 4));
+    Jobs::new(arenas.count, move |judge, r, number| {
+        let a = arenas.nth(number);
+        if model::check(&a) == 0 {
+            return;
+        }
+        let above = a.stack() as u16 + 1;
+        let naming = a.link_slots().find(|&s| a.prev[s - 1] == above || a.next[s - 1] == above);
+        let false_neighbours: Vec<usize> = match form {
+            Form::Long if a.stack() < 4 => (1..=a.stack()).collect(),
+            _ => naming.into_iter().collect(),
+        };
+        let alone = (a.stack() < 4 || naming.is_none()).then(|| a.clone());
+        let with_room = false_neighbours.into_iter().map(|s| cases::with_false_neighbour(a.clone(), s));
+        for a in alone.into_iter().chain(with_room) {
+            for call in each_call(r, &a) {
+                judge.hold(&a, &call);
+            }
+        }
+    })
+}
+
+/// Every call on random arenas that rule 11 alone refuses, most of them small, a few of up to 65,535 slots.
+fn random_broken(arenas: usize) -> Jobs {
+    Jobs::new(arenas, |judge, r, number| {
+        let (stack, turn) = if number % 1_000 == 500 {
+            let turn = number / 1_000;
+            ([LIMIT, LIMIT, LIMIT - 1, 40_000][turn / 4 % 4], turn)
+        } else {
+            let most = if r.once_in(50) { 300 } else { r.pick(&[2, 5, 12, 40]) };
+            (1 + r.below(most), number)
+        };
+        let near = [Near::Anywhere, Near::First, Near::Last, Near::LastAlone][turn % 4];
+        let a = random::with_broken_links(r, stack, near);
         for call in each_call(r, &a) {
             judge.hold(&a, &call);
         }

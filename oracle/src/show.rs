@@ -5,7 +5,7 @@ use std::fmt;
 
 use crate::compare::{Mismatch, Outcome};
 use crate::words::argument_name;
-use crate::{Arena, COMMAND_WORDS, Call, Reply};
+use crate::{Arena, COMMAND_WORDS, Call, Reply, side};
 
 /// How many slots and how many differences are printed at most.
 const LINES: usize = 40;
@@ -65,14 +65,22 @@ fn call_line(call: &Call) -> String {
 
 /// The answer's number, and behind it the words that it has.
 fn reply_line(call: &Call, reply: &Reply) -> String {
-    let mut line = reply.number.to_string();
-    if reply.broken != 0 {
-        line += &format!(", at slot {}", reply.broken);
-    }
+    let mut line = reply.number.to_string() + &place(reply.broken, reply.side);
     for (name, word) in call.fields().iter().zip(reply.words) {
         line += &format!(", {name} {word}");
     }
     line
+}
+
+/// Where rule 11 fails, in words; none if no slot and no side is named.
+pub fn place(broken: u32, side: u32) -> String {
+    match (broken, side) {
+        (0, 0) => String::new(),
+        (slot, side::PREV) => format!(" at the prev of slot {slot}"),
+        (slot, side::NEXT) => format!(" at the next of slot {slot}"),
+        (slot, 0) => format!(" at no side of slot {slot}"),
+        (slot, other) => format!(" at side {other} of slot {slot}"),
+    }
 }
 
 /// The slots as a table, a dash where a column is too short, and the header.
@@ -111,7 +119,8 @@ fn differences(model: &Outcome, side: &str, other: &Outcome) -> Vec<String> {
     let slot = |column: &'static str| move |place: usize| format!("{column} of slot {}", place + 1);
     let wide = |column: &[u16]| column.iter().map(|&word| word.into()).collect::<Vec<u32>>();
     let (a, b) = (&model.arena, &other.arena);
-    compare(&|_| "number".to_string(), vec![model.reply.number], vec![other.reply.number]);
+    let answer = |o: &Outcome| vec![o.reply.number, o.reply.broken, o.reply.side];
+    compare(&|place| ["number", "broken", "side"][place].to_string(), answer(model), answer(other));
     let fields = model.call.fields();
     let field = |place: usize| (*fields.get(place).unwrap_or(&"a further field")).to_string();
     compare(&field, model.reply.words.to_vec(), other.reply.words.to_vec());

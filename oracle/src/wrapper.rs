@@ -28,7 +28,9 @@ fn reply(answer: Result<(u32, Vec<u32>), Refusal>) -> Reply {
     match answer {
         Ok((number, words)) => Reply::new(number, &words),
         Err(refusal) => {
-            Reply { broken: refusal.slot().map_or(0, u32::from), ..Reply::number(refusal.number()) }
+            let broken = refusal.slot().map_or(0, u32::from);
+            let side = refusal.side().map_or(0, |side| side as u32);
+            Reply { broken, side, ..Reply::number(refusal.number()) }
         }
     }
 }

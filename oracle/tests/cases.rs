@@ -3,8 +3,9 @@
 use std::collections::{HashMap, HashSet};
 
 use oracle::cases::{self, COUNTS};
-use oracle::compare::{Counts, compare};
-use oracle::{Arena, Call, Reading, demand3, guards, model};
+use oracle::compare::{Counts, compare, crate_place, crate_text_found};
+use oracle::random::{self, Near, Random};
+use oracle::{Arena, Call, Reading, Reply, demand3, guards, model, side};
 
 #[test]
 fn there_are_so_many() {
@@ -34,6 +35,75 @@ fn the_tuples_that_pass_are_those_arenas() {
         tuples.push(all);
     }
     assert_eq!(tuples, [4, 162, 16_384, 3_125_000]);
+}
+
+#[test]
+fn rule_11_alone_refuses_so_many() {
+    let all = cases::Interlinked::up_to(3);
+    let (mut counts, mut passed, mut sides) = ([0; 4], [0; 4], [0; 2]);
+    for a in (0..all.count).map(|number| all.nth(number)) {
+        match model::perform(&mut a.clone(), &mut Call::Check) {
+            Reply { number: 11, side, .. } => sides[side as usize - 1] += 1,
+            reply => {
+                assert_eq!(reply, Reply::number(0));
+                passed[a.stack()] += 1;
+            }
+        }
+        counts[a.stack()] += 1;
+        if crate_text_found() {
+            assert_eq!(crate_place(&a), Some(model::broken_place(&a).unwrap_or((0, 0))), "{a:?}");
+        }
+    }
+    // Slots that are links have two words, free ones one, and the free ones can be listed in any order.
+    assert_eq!(counts, [0, 3 * 3, 4 * 4 * (16 + 2 * 4), 25 * 25 * (25 + 3 * 5 + 6)]);
+    for (length, passed) in passed.into_iter().enumerate().skip(1) {
+        let times = |a: &Arena| (length + 2).pow((length - a.links()) as u32);
+        let linked = cases::small_arenas(length).into_iter().filter(|a| a.links() > 0);
+        assert_eq!(passed, linked.map(|a| times(&a)).sum::<usize>());
+    }
+    assert_eq!(sides, [22_508, 6_171]);
+    assert_eq!(all.count, 29_143);
+    assert_eq!(cases::Interlinked::up_to(4).count, 29_143 + 3_545_856);
+}
+
+/// How the neighbour is wrong that a link has at a broken place.
+fn way(a: &Arena, (slot, side): (u32, u32)) -> &'static str {
+    let (named, back) = if side == side::PREV { (&a.prev, &a.next) } else { (&a.next, &a.prev) };
+    match named[slot as usize - 1] as usize {
+        above if above > a.stack() => "above the stack",
+        free if !a.is_link(free) => "free",
+        link if back[link - 1] == 0 => "a link that names none",
+        _ => "a link that names another",
+    }
+}
+
+#[test]
+fn random_broken_arenas_are_of_every_kind() {
+    const WAYS: [&str; 4] =
+        ["above the stack", "free", "a link that names none", "a link that names another"];
+    let mut found = HashMap::new();
+    for seed in 0..20_000 {
+        let mut r = Random::new(5_000_000 + seed);
+        let near = r.pick(&[Near::First, Near::Last, Near::LastAlone, Near::Anywhere]);
+        let stack = 2 + r.below(12);
+        let a = random::with_broken_links(&mut r, stack, near);
+        assert_eq!(model::check(&a), 11);
+        let slots: HashSet<u32> = model::broken_places(&a).map(|(slot, _)| slot).collect();
+        let (slot, side) = model::broken_place(&a).expect("a broken arena");
+        let at = match slot as usize {
+            1 => "the first slot",
+            last if last == stack => "the last slot",
+            _ => "another slot",
+        };
+        *found.entry((way(&a, (slot, side)), side, at, slots.len().min(3))).or_insert(0) += 1;
+    }
+    let wanted = [("the first slot", 1..=3), ("another slot", 1..=3), ("the last slot", 1..=1)];
+    for (way, side) in WAYS.into_iter().flat_map(|way| [(way, side::PREV), (way, side::NEXT)]) {
+        for (at, slots) in wanted.clone().into_iter().flat_map(|(at, counts)| counts.map(move |n| (at, n))) {
+            let cases = found.get(&(way, side, at, slots)).copied().unwrap_or(0);
+            assert!(cases >= 20, "{way}, side {side}, {at}, {slots} broken slots: {cases} cases");
+        }
+    }
 }
 
 #[test]

@@ -3,10 +3,10 @@
 //! arena, which reads the columns itself, reads what the proved calls read.
 
 use chain_arena::{Checked, Link, Ptr, Refusal};
-use oracle::calls::some_call;
-use oracle::compare::{Counts, agrees, model_outcome, wrapper_outcome};
+use oracle::calls::{each_call, some_call};
+use oracle::compare::{Counts, model_outcome, wrapper_outcome};
 use oracle::random::{self, Random};
-use oracle::{Arena, Call, LIMIT, Reading, cases, kind};
+use oracle::{Arena, Call, LIMIT, Reading, cases, kind, model};
 
 #[test]
 fn any_call() {
@@ -35,16 +35,31 @@ fn any_insertion() {
     }
 }
 
+#[test]
+fn any_call_on_a_broken_arena() {
+    let mut counts = Counts::default();
+    let arenas = cases::Interlinked::up_to(3);
+    for number in 0..arenas.count {
+        let (a, mut r) = (arenas.nth(number), Random::new(8_500_000 + number as u64));
+        if model::check(&a) != 0 {
+            each_call(&mut r, &a).for_each(|call| hold_call(&a, &call, &mut counts));
+        }
+    }
+    counts.say("calls through the wrapper on broken arenas");
+    assert!(counts.sides.iter().all(|&cases| cases > 100_000), "{counts}");
+    assert_eq!(counts.numbers[11], counts.cases);
+}
+
 /// Holds a call through the wrapper to the model. The wrapper has no name for an unknown kind of insertion.
 fn hold_call(a: &Arena, call: &Call, counts: &mut Counts) {
     if matches!(call, Call::Insert(kind, ..) if !kind::ALL.contains(kind)) {
         return assert!(wrapper_outcome(a, call).is_none());
     }
     let expected = model_outcome(a, call);
-    counts.count(expected.reply.number);
+    counts.count(&expected.reply);
     if let Some(found) = wrapper_outcome(a, call) {
         counts.with_exports += 1;
-        assert!(agrees(a, &expected, &found), "{call:?} on {a:?} gives {found:?}");
+        assert_eq!(found, expected, "{call:?} on {a:?}");
     }
 }
 

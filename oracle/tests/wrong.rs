@@ -3,11 +3,12 @@
 
 use std::collections::BTreeSet;
 
-use oracle::compare::{Answer, Mismatch, Outcome, Product, agrees, model_outcome};
+use oracle::compare::{Answer, Counts, Mismatch, Outcome, Product, compare, model_outcome};
 use oracle::header::{GENERATION, LINKS, ROOT, STACK};
-use oracle::random::{self, Random};
+use oracle::random::{self, Near, Random};
 use oracle::runner::{Failure, Run};
 use oracle::sections::{Form, SECTIONS};
+use oracle::side::{NEXT, PREV};
 use oracle::words::CALLS_IN_ALL;
 use oracle::{
     Arena, COMMAND_WORDS, Call, Ptr, Reading, Reply, Walk, calls, cases, demand3, kind, model, shrink,
@@ -22,6 +23,8 @@ fn one_word_off(right: &Outcome) -> Vec<Outcome> {
         wrong.push(outcome);
     };
     push(&|o| o.reply.number ^= 1);
+    push(&|o| o.reply.broken ^= 1);
+    push(&|o| o.reply.side ^= 1);
     for k in 0..6 {
         push(&|o| o.reply.words[k] ^= 1);
     }
@@ -53,12 +56,19 @@ fn one_word_off(right: &Outcome) -> Vec<Outcome> {
 fn one_wrong_word_is_seen() {
     for seed in 0..3_000 {
         let mut r = Random::new(6_000_000 + seed);
-        let a = random::any_whole(&mut r, 8);
+        let stack = 1 + r.below(8);
+        let a = match seed % 3 {
+            0 => random::with_broken_links(&mut r, stack, Near::Anywhere),
+            _ => random::any_whole(&mut r, 8),
+        };
         let call = calls::some_call(&mut r, &a, &[]);
         let right = model_outcome(&a, &call);
-        assert!(agrees(&a, &right, &right));
+        let passes = |outcome: &Outcome| {
+            compare(&|_, _| Some(Ok(outcome.clone())), &a, &call, &mut Counts::default()).is_ok()
+        };
+        assert!(passes(&right));
         for wrong in one_word_off(&right) {
-            assert!(!agrees(&a, &right, &wrong), "{call:?} on {a:?} may leave {wrong:?}");
+            assert!(!passes(&wrong), "{call:?} on {a:?} may leave {wrong:?}");
         }
     }
 }
@@ -74,10 +84,68 @@ const WRONG: &[(&str, &str, Wrong)] = &[
     ("check", "refuses every arena", |_, call, o| if matches!(call, Call::Check) { o.reply = Reply::number(4) }),
     ("check", "the links not counted", |_, _, o| if o.reply.number == 4 { o.reply.number = 0 }),
     ("check", "10 for 9", |_, _, o| if o.reply.number == 9 { o.reply.number = 10 }),
-    ("check", "only next looked at", |a, _, o| if o.reply.number == 11 { only_next(a, o) }),
-    ("check", "a healthy slot named", |_, _, o| if o.reply.number == 11 { o.reply.broken = o.reply.broken % 2 + 1 }),
-    ("check", "no slot named", |_, _, o| o.reply.broken = 0),
-    ("check", "a slot named where nothing is broken", |_, _, o| o.reply.broken = o.reply.broken.max(1)),
+    ("check", "only next looked at", |a, _, o| only_one_side(a, o, NEXT)),
+    ("check", "only prev looked at", |a, _, o| only_one_side(a, o, PREV)),
+    ("check", "another slot named", |a, _, o| named(a, o, |places| (places[0].0 % 2 + 1, places[0].1))),
+    ("check", "no slot named", |a, _, o| named(a, o, |places| (0, places[0].1))),
+    ("check", "the highest broken slot named", |a, _, o| named(a, o, |places| first_side(places, places[places.len() - 1].0))),
+    ("check", "the second lowest broken slot named", |a, _, o| named(a, o, |places| {
+        *places.iter().find(|place| place.0 > places[0].0).unwrap_or(&places[0])
+    })),
+    ("check", "the highest place, on its next if that fails", |a, _, o| named(a, o, |places| places[places.len() - 1])),
+    ("check", "all prevs looked at before all nexts", |a, _, o| named(a, o, |places| {
+        *places.iter().find(|place| place.1 == PREV).unwrap_or(&places[0])
+    })),
+    ("check", "all nexts looked at before all prevs", |a, _, o| named(a, o, |places| {
+        *places.iter().find(|place| place.1 == NEXT).unwrap_or(&places[0])
+    })),
+    ("check", "the neighbour named", |a, _, o| named(a, o, |places| {
+        let (slot, side) = places[0];
+        let column = if side == PREV { &a.prev } else { &a.next };
+        (column[slot as usize - 1].into(), side)
+    })),
+    ("check", "slots counted from 0", |a, _, o| named(a, o, |places| (places[0].0 - 1, places[0].1))),
+    ("check", "next looked at before prev", |a, _, o| named(a, o, |places| {
+        let slot = places[0].0;
+        (slot, if places.contains(&(slot, NEXT)) { NEXT } else { PREV })
+    })),
+    ("check", "the side of the highest broken slot", |a, _, o| named(a, o, |places| {
+        (places[0].0, first_side(places, places[places.len() - 1].0).1)
+    })),
+    ("check", "side 0 with 11", |a, _, o| named(a, o, |places| (places[0].0, 0))),
+    ("check", "side 3 with 11", |a, _, o| named(a, o, |places| (places[0].0, 3))),
+    ("check", "side 3 if both fail", |a, _, o| named(a, o, |places| {
+        let slot = places[0].0;
+        (slot, places.iter().filter(|place| place.0 == slot).map(|place| place.1).sum())
+    })),
+    ("check", "side 1 always", |a, _, o| named(a, o, |places| (places[0].0, PREV))),
+    ("check", "side 2 always", |a, _, o| named(a, o, |places| (places[0].0, NEXT))),
+    ("check", "sides exchanged", |a, _, o| named(a, o, |places| (places[0].0, PREV + NEXT - places[0].1))),
+    ("check", "sides counted from 0", |a, _, o| named(a, o, |places| (places[0].0, places[0].1 - 1))),
+    ("check", "slot and side exchanged", |_, _, o| std::mem::swap(&mut o.reply.broken, &mut o.reply.side)),
+    ("check", "a slot above the stack taken for a link", |a, _, o| by_other_links(a, o, |s| {
+        a.generation.get(s - 1).is_some_and(|&generation| generation != 0)
+    })),
+    ("check", "a free slot taken for a link", |a, _, o| by_other_links(a, o, |s| s <= a.stack())),
+    ("check", "a slot named where nothing is broken", |_, _, o| if o.reply.number == 0 { o.reply.broken = 1 }),
+    ("check", "a slot named with 4", |_, _, o| if o.reply.number == 4 { o.reply.broken = 1 }),
+    ("check", "a side given where nothing is broken", |_, _, o| if o.reply.number == 0 { o.reply.side = 1 }),
+    ("check", "a side given with 10", |_, _, o| if o.reply.number == 10 { o.reply.side = 2 }),
+    ("get_link", "its slot named with 12", |_, call, o| if let (Call::GetLink(p), 12) = (call, o.reply.number) {
+        o.reply.broken = p.slot.into();
+    }),
+    ("get_link", "a side given with 12", |_, call, o| if let (Call::GetLink(_), 12) = (call, o.reply.number) {
+        o.reply.side = 1;
+    }),
+    ("connect", "the side in the way given with 13", |_, call, o| if let (Call::Connect(..), 13) = (call, o.reply.number) {
+        o.reply.side = 2;
+    }),
+    ("insert", "a slot named with 17", |_, call, o| if let (Call::Insert(..), 17) = (call, o.reply.number) {
+        o.reply.broken = 1;
+    }),
+    ("remove", "a side given with 100", |_, call, o| if let (Call::Remove(_), 100) = (call, o.reply.number) {
+        o.reply.side = 1;
+    }),
     ("get_link", "prev and next exchanged", |_, call, o| if matches!(call, Call::GetLink(_)) {
         o.reply.words.swap(0, 2);
         o.reply.words.swap(1, 3);
@@ -496,15 +564,45 @@ fn behind_the_stack(a: &Arena, o: &mut Outcome) {
     o.reply.words[0] = new as u32;
 }
 
-/// Looks for a broken link by its next alone.
-fn only_next(a: &Arena, o: &mut Outcome) {
-    let fails = |s: usize| {
-        let next = a.next[s - 1] as usize;
-        next != 0 && !(a.is_link(next) && a.prev[next - 1] as usize == s)
-    };
-    match a.link_slots().find(|&s| fails(s)) {
-        Some(s) => o.reply.broken = s as u32,
-        None => (o.reply.number, o.reply.broken) = (0, 0),
+/// Names another place with 11: `choose` has all places at which rule 11 fails, rising by slot and then by side.
+fn named(a: &Arena, o: &mut Outcome, choose: impl Fn(&[(u32, u32)]) -> (u32, u32)) {
+    if o.reply.number == 11 {
+        let mut places: Vec<(u32, u32)> = model::broken_places(a).collect();
+        places.sort_unstable();
+        (o.reply.broken, o.reply.side) = choose(&places);
+    }
+}
+
+/// The place of a slot with the side that is looked at first.
+fn first_side(places: &[(u32, u32)], slot: u32) -> (u32, u32) {
+    *places.iter().find(|place| place.0 == slot).expect("a broken slot")
+}
+
+/// Names the place that was found, or lets the arena pass.
+fn found(o: &mut Outcome, place: Option<(u32, u32)>) {
+    (o.reply.broken, o.reply.side) = place.unwrap_or((0, 0));
+    if place.is_none() {
+        o.reply.number = 0;
+    }
+}
+
+/// Looks for a broken link on one side alone.
+fn only_one_side(a: &Arena, o: &mut Outcome, side: u32) {
+    if o.reply.number == 11 {
+        found(o, model::broken_places(a).filter(|place| place.1 == side).min());
+    }
+}
+
+/// Takes other slots for links that can be named.
+fn by_other_links(a: &Arena, o: &mut Outcome, is_link: impl Fn(usize) -> bool) {
+    if o.reply.number == 11 {
+        let fails = |&(slot, side): &(u32, u32)| {
+            let x = slot as usize;
+            let (named, back) = if side == PREV { (&a.prev, &a.next) } else { (&a.next, &a.prev) };
+            let neighbour = named[x - 1] as usize;
+            neighbour != 0 && !(is_link(neighbour) && back[neighbour - 1] as usize == x)
+        };
+        found(o, a.link_slots().flat_map(|s| [(s as u32, PREV), (s as u32, NEXT)]).find(fails));
     }
 }
 
@@ -631,7 +729,7 @@ fn found_out(sections: &[&str], most: usize, program: Wrong) -> Option<Box<Misma
 /// is found on damaged arenas alone.
 fn sections_of(call: &str) -> &'static [&'static str] {
     match call {
-        "check" => &["tuples"],
+        "check" => &["tuples", "small_broken"],
         "get_link" | "get_link_no_gen" | "are_neighbors" | "walk_start" => &["reading"],
         "walk_step" => &["steps", "damage"],
         "run" => &["insertion_pairs", "edits"],
@@ -656,6 +754,7 @@ fn a_wrong_program_is_found_out() {
 
 /// Wrong programs that only small cases are sure to find: words that random ones hardly ever have.
 #[rustfmt::skip]
+#[allow(clippy::collapsible_if)] // as above
 const WRONG_OF_FEW_WORDS: &[(&str, &str, Wrong)] = &[
     ("insert", "a payload of 0 not written", |a, call, o| inserted(call, o, |_, _, _, o| {
         let place = o.reply.words[0] as usize - 1;
@@ -699,14 +798,104 @@ fn a_program_wrong_about_few_words_is_found_out() {
     }
 }
 
+/// The sections of random cases that find a program out that is wrong about a call.
+fn random_sections_of(call: &str) -> &'static [&'static str] {
+    if call == "check" { &["damage", "random_broken"] } else { &["sequences", "damage"] }
+}
+
 #[test]
 fn what_random_cases_find_is_shown_on_a_small_one() {
     for (call, what, program) in WRONG {
-        let shown = found_out(&["sequences", "damage"], 400, *program);
+        let shown = found_out(random_sections_of(call), 400, *program);
         let shown = shown.unwrap_or_else(|| panic!("{call}: {what}: passes for right"));
         let small = shown.before.capacity() <= 4 && shown.call.arguments().len() <= 2 * COMMAND_WORDS;
         assert!(small, "{call}: {what}: {shown}");
     }
+}
+
+/// Ways to hand on what the check says of a broken arena.
+#[rustfmt::skip]
+const HANDED_ON: &[(&str, Wrong)] = &[
+    ("no slot and no side", |a, _, o| named(a, o, |_| (0, 0))),
+    ("no slot", |a, _, o| named(a, o, |places| (0, places[0].1))),
+    ("no side", |a, _, o| named(a, o, |places| (places[0].0, 0))),
+    ("the highest slot", |a, _, o| named(a, o, |places| first_side(places, places[places.len() - 1].0))),
+    ("another side", |a, _, o| named(a, o, |places| (places[0].0, PREV + NEXT - places[0].1))),
+    ("side 1 always", |a, _, o| named(a, o, |places| (places[0].0, PREV))),
+    ("side 2 always", |a, _, o| named(a, o, |places| (places[0].0, NEXT))),
+    ("slot and side exchanged", |_, _, o| std::mem::swap(&mut o.reply.broken, &mut o.reply.side)),
+    ("the slot twice", |_, _, o| o.reply.side = o.reply.broken),
+    ("number and slot exchanged", |_, _, o| if o.reply.number == 11 {
+        std::mem::swap(&mut o.reply.number, &mut o.reply.broken);
+    }),
+];
+
+#[test]
+fn one_call_that_hands_on_another_place_is_found_out() {
+    for code in 1..=CALLS_IN_ALL {
+        for (what, program) in HANDED_ON {
+            // The call alone is wrong, or all others are.
+            for alone in [true, false] {
+                let product = |a: &Arena, call: &Call| {
+                    let mut outcome = model_outcome(a, call);
+                    if (call.code() == code) == alone {
+                        program(a, call, &mut outcome);
+                    }
+                    Some(Ok(outcome))
+                };
+                for section in ["small_broken", "random_broken"] {
+                    let found = failure(&[section], 400, 1, &product);
+                    let found = found.unwrap_or_else(|| panic!("call {code} alone {alone}: {what}: passes"));
+                    assert_eq!((found.mismatch.call.code() == code), alone, "call {code}: {what}");
+                }
+            }
+        }
+    }
+}
+
+/// Wrong programs that need a slot over 255 or over 32,767.
+const WRONG_ABOUT_FAR_SLOTS: &[(&str, Wrong)] = &[
+    ("a slot of 8 bits", |_, _, o| o.reply.broken &= 0xff),
+    ("a slot of 15 bits", |_, _, o| o.reply.broken &= 0x7fff),
+    ("another side from slot 32,768 on", |a, _, o| {
+        named(a, o, |places| match places[0] {
+            (slot @ 32_768.., side) => (slot, PREV + NEXT - side),
+            place => place,
+        });
+    }),
+    ("the last slot not looked at", |a, _, o| {
+        if o.reply.number == 11 && o.reply.broken == 65_535 {
+            found(o, model::broken_places(a).filter(|place| place.0 < 65_535).min());
+        }
+    }),
+];
+
+#[test]
+fn a_program_wrong_about_far_slots_is_found_out() {
+    for (what, program) in WRONG_ABOUT_FAR_SLOTS {
+        let found = failure(&["random_broken"], 20_000, 2, &side(*program));
+        assert!(found.is_some(), "{what}: passes for right");
+    }
+}
+
+#[test]
+fn a_broken_link_is_shown_with_its_side() {
+    let shown = found_out(&["random_broken"], 400, |a, _, o| {
+        named(a, o, |places| first_side(places, places[places.len() - 1].0));
+    });
+    let expected = "\
+the export parts from the model
+  check()
+    slot   prev   next  generation     payload
+       1      0      1           2           0
+       2      1      0           2           0
+  header: stack length 2, link count 2, root 0, generation 2
+  the model answers 11 at the next of slot 1
+  the export answers 11 at the prev of slot 2
+  broken: model 1, export 2
+  side: model 2, export 1
+";
+    assert_eq!(shown.expect("a wrong program").to_string(), expected);
 }
 
 #[test]

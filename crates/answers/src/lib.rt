@@ -4,21 +4,24 @@ ghost use Rattle.definitions.specs.Lent.{atEntry};
 ghost use Rattle.answers.specs.Answered.{Verdict};
 use chain_arena::check;
 
-// What every exported result begins with: its number, and with 11 a link at which that rule fails, else 0 (REFERENCE, Replies).
+// What every exported result begins with: its number, and with 11 the lowest slot at which that rule fails and the side, 1 for prev and 2 for next; in every
+// other case slot and side are 0 (REFERENCE, Replies).
 #[repr(C)]
 pub struct Answer {
     pub number: u32,
     pub broken: u32,
+    pub side: u32,
 }
 
 impl Answer {
     // The answer of a call on an arena that passed the check.
     pub fn of(number: u32) -> Answer
-        ensures { λ r. ⌜ (r .number ≡ number) × (r .broken ≡ 0) ⌝ }
+        ensures { λ r. ⌜ (r .number ≡ number) × (r .broken ≡ 0) × (r .side ≡ 0) ⌝ }
     {
         Answer {
             number: number,
             broken: 0,
+            side: 0,
         }
     }
 }
@@ -45,8 +48,10 @@ pub fn checked(
     let found = check(prev, next, generation, payload, header);
     let refusal = found.number();
     let slot = found.broken();
+    let side = found.side();
     Answer {
         number: refusal,
         broken: slot,
+        side: side,
     }
 }

@@ -7,12 +7,11 @@ use native.Mathlib.Omega.{arith}
 use native.Mathlib.Numerals.{sub-one}
 use lib.ListN.{getD}
 use lib.Dec.{eqb, ltb, leb}
-use borrow.Author.Tests.{le-leb, le-ltb, lt-ltb, leb-true, leb-false, ne-eqb}
+use borrow.Author.Tests.{le-leb, le-ltb, lt-ltb, leb-true, leb-false}
 use Rattle.definitions.specs.Columns.{at}
 use Rattle.definitions.specs.Arena.{allocated}
-use Rattle.definitions.specs.Check.{namesBack, neighboursFine, allFine}
+use Rattle.definitions.specs.Check.{namesBack, neighboursFine, sideAt}
 use Rattle.definitions.proofs.Tests.{by-test}
-use Rattle.definitions.proofs.Interlinks.{not-all-fine}
 
 -- the definitions' tests, in the order of the code's
 past-within : (n s : ℕ) → ltb n s ≡ not (leb s n)
@@ -51,6 +50,13 @@ module _ (ps ns gs : List ℕ) (n : ℕ) where
   neighbours-fine-read (suc i) r p h e =
       (rw sub-one at e) ∙ fine-tests (leb (suc i) n) (eqb (getD gs i 0) 0) (namesBack ns gs n (suc i) (getD ps i 0)) (namesBack ps gs n (suc i) (getD ns i 0)) (le-leb (suc i) n h)
 
-  -- a slot at which rule 11 fails, for all of the first n slots
-  pub fails-at : (x : ℕ) → 0 < x → x ≤ n → neighboursFine ps ns gs n x ≡ false → allFine ps ns gs n n ≡ eqb x 0
-  fails-at x p h e = not-all-fine ps ns gs n n x p h e ∙ sym (ne-eqb x 0 (λ z. omega arith))
+  -- next where prev names x back, else prev
+  pub side-next : (x : ℕ) → 0 < x → namesBack ns gs n x (getD ps (x - 1) 0) ≡ true → 2 ≡ sideAt ps ns gs n x
+  unfolding sideAt at
+  side-next zero p e = absurd (omega arith)
+  side-next (suc i) p e = rw (rw sub-one at e) refl
+
+  pub side-prev : (x : ℕ) → 0 < x → namesBack ns gs n x (getD ps (x - 1) 0) ≡ false → 1 ≡ sideAt ps ns gs n x
+  unfolding sideAt at
+  side-prev zero p e = absurd (omega arith)
+  side-prev (suc i) p e = rw (rw sub-one at e) refl

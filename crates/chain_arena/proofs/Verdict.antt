@@ -5,15 +5,18 @@ use mathlib.Core.Bool.{Bool, true, false, cond}
 use mathlib.Core.List.{List}
 use native.Mathlib.Omega.{arith}
 use lib.Dec.{lit≤}
+use borrow.Author.Tests.{ne-eqb}
 use Rattle.definitions.specs.Columns.{at}
-use Rattle.definitions.specs.Arena.{Arena, capacityLimit}
-use Rattle.definitions.specs.Check.{freelistWalk, countsOf, verdict, FailsAt}
+use Rattle.definitions.specs.Arena.{Arena, capacityLimit, stackLength}
+use Rattle.definitions.specs.Check.{freelistWalk, countsOf, verdict, sideAt}
 use Rattle.definitions.proofs.Tests.{not-ne}
 use Rattle.definitions.proofs.Shaped.{Shaped, countsVerdict, interlinksFine, verdict-of-shaped, passes}
+use Rattle.definitions.proofs.Broken.{lowestBroken, all-fine-first, slot-with-eleven, side-with-eleven, slot-without, side-without}
 use Rattle.base_arena.specs.Shape.{shapeOf}
 use Rattle.base_arena.proofs.Refusals.{shape-refused}
 use Rattle.ptr.specs.declared.Slot.{Slot}
-use Rattle.chain_arena.specs.Checked.{Checks}
+use Rattle.chain_arena.specs.Checked.{sideWord, Checks}
+use Rattle.chain_arena.specs.declared.Side.{Side}
 use Rattle.chain_arena.specs.declared.Checked.the-variants.{Passed, Refused, Broken}
 
 -- ---- no refusal before rule 11 is 11
@@ -39,7 +42,9 @@ counts-le ns gs n m s = search (either, lit≤, walk-le) depth 20
 
 module _ (a : Arena) where
   refused : (k : ℕ) → verdict capacityLimit a ≡ k → k ≤ 10 → Checks a (Refused k)
-  refused k v h = record { number = sym v; names = record { one = λ e. absurd (omega arith); none = λ e. refl } }
+  refused k v h =
+      let other : verdict capacityLimit a ≡ 11 → ⊥ = λ e. omega arith in
+      record { number = sym v; broken = sym (slot-without capacityLimit a other); side = sym (side-without capacityLimit a other) }
 
   -- refusals 1 to 3, and 4 to 10
   pub checks-shape : (k : ℕ) → k ≡ shapeOf capacityLimit a → (k ≡ 0 → ⊥) → Checks a (Refused k)
@@ -50,13 +55,20 @@ module _ (a : Arena) where
       let v : verdict capacityLimit a ≡ k = sym (verdict-of-shaped capacityLimit a h) ∙ rw (not-ne (countsVerdict a) 0 (λ z. d (e ∙ z))) (sym e) in
       refused k v (rw e (counts-le _ _ _ _ _))
 
-  -- rule 11 fails at slot s
-  pub checks-broken : (s : Slot) → Shaped capacityLimit a → countsVerdict a ≡ 0 → interlinksFine a ≡ false → FailsAt a (s .0) → Checks a (Broken s)
-  checks-broken s h e f g =
+  -- rule 11 fails, first at slot s and there on side d
+  pub checks-broken : (s : Slot) (d : Side) → Shaped capacityLimit a → countsVerdict a ≡ 0 → s .0 ≡ lowestBroken capacityLimit a → (s .0 ≡ 0 → ⊥)
+      → sideWord d ≡ sideAt (a .prev) (a .next) (a .generation) (stackLength a) (s .0) → Checks a (Broken s d)
+  checks-broken s d h e l some side =
+      let f : interlinksFine a ≡ false = all-fine-first _ _ _ _ ∙ ne-eqb _ 0 (λ z. some (l ∙ z)) in
       let v : verdict capacityLimit a ≡ 11 = sym (verdict-of-shaped capacityLimit a h) ∙ rw (e, f) refl in
-      record { number = sym v; names = record { one = λ _. g; none = λ d. absurd (d v) } }
+      record {
+        number = sym v;
+        broken = l ∙ sym (slot-with-eleven capacityLimit a v);
+        side = (rw l at side) ∙ sym (side-with-eleven capacityLimit a v);
+      }
 
   pub checks-passed : Shaped capacityLimit a → countsVerdict a ≡ 0 → interlinksFine a ≡ true → Checks a Passed
   checks-passed h e f =
       let v : verdict capacityLimit a ≡ 0 = passes capacityLimit a h e f in
-      record { number = sym v; names = record { one = λ z. absurd (omega arith); none = λ _. refl } }
+      let other : verdict capacityLimit a ≡ 11 → ⊥ = λ z. omega arith in
+      record { number = sym v; broken = sym (slot-without capacityLimit a other); side = sym (side-without capacityLimit a other) }

@@ -2,23 +2,35 @@
 use Prim.Native.Nat.{ℕ}
 use mathlib.Core.Path.{_≡_}
 use Rattle.definitions.specs.Arena.{Arena, capacityLimit}
-use Rattle.definitions.specs.Check.{verdict, Names}
+use Rattle.definitions.specs.Check.{verdict, prevSide, nextSide, brokenSlot, brokenSide}
+use Rattle.chain_arena.specs.declared.Side.{Side}
+use Rattle.chain_arena.specs.declared.Side.the-variants.{Prev, Next}
 use Rattle.chain_arena.specs.declared.Checked.{Checked}
 use Rattle.chain_arena.specs.declared.Checked.the-variants.{Passed, Refused, Broken}
 
--- the number of each answer (REFERENCE, Numbers)
+-- the word of a side
+abbrev pub sideWord : Side → ℕ
+sideWord Prev = prevSide
+sideWord Next = nextSide
+
+-- the number of each answer (REFERENCE, Numbers), and the slot and the side at which rule 11 fails, else 0
 abbrev pub checkedNumber : Checked → ℕ
 checkedNumber Passed = 0
 checkedNumber (Refused k) = k
-checkedNumber (Broken s) = 11
+checkedNumber (Broken s d) = 11
 
--- the link at which rule 11 was found to fail, else 0
-abbrev pub brokenSlot : Checked → ℕ
-brokenSlot Passed = 0
-brokenSlot (Refused k) = 0
-brokenSlot (Broken s) = s .0
+abbrev pub checkedSlot : Checked → ℕ
+checkedSlot Passed = 0
+checkedSlot (Refused k) = 0
+checkedSlot (Broken s d) = s .0
 
--- the answer r to the arena a: its number is the verdict, and with 11 it names a slot at which rule 11 fails
+abbrev pub checkedSide : Checked → ℕ
+checkedSide Passed = 0
+checkedSide (Refused k) = 0
+checkedSide (Broken s d) = sideWord d
+
+-- the answer r to the arena a has the definition's number, slot and side
 pub record Checks (a : Arena) (r : Checked) : Type 0 where
   pub number : checkedNumber r ≡ verdict capacityLimit a
-  pub names : Names capacityLimit a (brokenSlot r)
+  pub broken : checkedSlot r ≡ brokenSlot capacityLimit a
+  pub side : checkedSide r ≡ brokenSide capacityLimit a

@@ -1,12 +1,11 @@
 // The whole check of a lent arena (chain/chain_arena.rs, `_check_invariants`): refusals 1 to 10, then the interlinks.
 ghost use mathlib.Core.Path.{_≡_};
-ghost use mathlib.Core.Bool.{false};
 ghost use Prim.Native.Nat.{_≤_, _<_};
 ghost use lib.ListN.{length};
-ghost use lib.Dec.{eqb};
+ghost use Rattle.definitions.specs.Columns.{firstOr};
 ghost use Rattle.definitions.specs.Lent.{atEntry};
-ghost use Rattle.definitions.specs.Check.{namesBack, neighboursFine, allFine};
-ghost use Rattle.chain_arena.specs.Checked.{checkedNumber, brokenSlot, Checks};
+ghost use Rattle.definitions.specs.Check.{namesBack, neighboursFine, brokenSlots, sideAt};
+ghost use Rattle.chain_arena.specs.Checked.{sideWord, checkedNumber, checkedSlot, checkedSide, Checks};
 use base_arena::counts;
 use base_arena::shape;
 use header::LINK_COUNT;
@@ -14,11 +13,29 @@ use header::ROOT;
 use header::STACK_LENGTH;
 use ptr::Slot;
 
-// What the check answers: nothing is wrong, a refusal 1 to 10, or 11 with a slot at which rule 11 fails.
+// The two neighbours of a link.
+pub enum Side {
+    Prev,
+    Next,
+}
+
+impl Side {
+    // The word of the side in an answer (REFERENCE, Replies).
+    pub fn word(self) -> u32
+        ensures { λ r. ⌜ r ≡ sideWord self ⌝ }
+    {
+        match self {
+            Side::Prev => 1,
+            Side::Next => 2,
+        }
+    }
+}
+
+// What the check answers: nothing is wrong, a refusal 1 to 10, or 11 with the lowest slot at which rule 11 fails and on which side.
 pub enum Checked {
     Passed,
     Refused(u32),
-    Broken(Slot),
+    Broken(Slot, Side),
 }
 
 impl Checked {
@@ -29,18 +46,29 @@ impl Checked {
         match self {
             Checked::Passed => 0,
             Checked::Refused(k) => k,
-            Checked::Broken(_) => 11,
+            Checked::Broken(_, _) => 11,
         }
     }
 
-    // The link at which rule 11 was found to fail, else 0.
+    // The lowest slot at which rule 11 fails, else 0.
     pub fn broken(self) -> u32
-        ensures { λ r. ⌜ r ≡ brokenSlot self ⌝ }
+        ensures { λ r. ⌜ r ≡ checkedSlot self ⌝ }
     {
         match self {
             Checked::Passed => 0,
             Checked::Refused(_) => 0,
-            Checked::Broken(s) => s.0 as u32,
+            Checked::Broken(s, _) => s.0 as u32,
+        }
+    }
+
+    // The side on which it fails there, else 0.
+    pub fn side(self) -> u32
+        ensures { λ r. ⌜ r ≡ checkedSide self ⌝ }
+    {
+        match self {
+            Checked::Passed => 0,
+            Checked::Refused(_) => 0,
+            Checked::Broken(_, d) => d.word(),
         }
     }
 }
@@ -79,9 +107,7 @@ pub fn neighbours_fine(prev: &[u16], next: &[u16], generation: &[u32], n: usize,
 // The lowest of the first n slots at which rule 11 fails, or 0 where it fails at none.
 pub fn interlinks(prev: &[u16], next: &[u16], generation: &[u32], n: usize) -> usize
     requires { ⌜ (n ≤ length (now prev)) × (n ≤ length (now next)) × (n ≤ length (now generation)) ⌝ }
-    ensures { λ r. ⌜ (r ≤ n)
-        × (allFine (now (prev .entry)) (now (next .entry)) (now (generation .entry)) n n ≡ eqb r 0)
-        × ((r ≡ 0 → ⊥) → neighboursFine (now (prev .entry)) (now (next .entry)) (now (generation .entry)) n r ≡ false) ⌝ }
+    ensures { λ r. ⌜ r ≡ firstOr 0 (brokenSlots (now (prev .entry)) (now (next .entry)) (now (generation .entry)) n) ⌝ }
 {
     let mut x: usize = 1;
     while x <= n {
@@ -91,6 +117,17 @@ pub fn interlinks(prev: &[u16], next: &[u16], generation: &[u32], n: usize) -> u
         x += 1;
     }
     0
+}
+
+// On which side rule 11 fails at slot x, where it does: prev before next.
+pub fn broken_side(prev: &[u16], next: &[u16], generation: &[u32], n: usize, x: usize) -> Side
+    requires { ⌜ (n ≤ length (now prev)) × (n ≤ length (now next)) × (n ≤ length (now generation)) × (0 < x) × (x ≤ n) ⌝ }
+    ensures { λ r. ⌜ sideWord r ≡ sideAt (now (prev .entry)) (now (next .entry)) (now (generation .entry)) n x ⌝ }
+{
+    if names_back(next, generation, n, x, prev[x - 1] as usize) {
+        return Side::Next;
+    }
+    Side::Prev
 }
 
 // The check of a lent arena.
@@ -121,7 +158,8 @@ pub fn check(
     let broken = interlinks(prev, next, generation, n);
     if broken != 0 {
         let slot = broken as u16;
-        return Checked::Broken(Slot(slot));
+        let side = broken_side(prev, next, generation, n, broken);
+        return Checked::Broken(Slot(slot), side);
     }
     Checked::Passed
 }

@@ -8,6 +8,7 @@ pub mod Linked
 pub mod Freelist
 pub mod Shaped
 pub mod Interlinks
+pub mod Broken
 pub mod Fields
 pub mod LinkCount
 pub mod Parts

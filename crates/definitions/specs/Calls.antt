@@ -1,13 +1,12 @@
 -- The public calls, each with what it answers and leaves, and the check that comes before it (REFERENCE, Replies).
 use Prim.Native.Nat.{ℕ}
-use mathlib.Core.Path.{_≡_}
 use mathlib.Core.Bool.{Bool, true, false, cond}
 use mathlib.Core.List.{List, [], _∷_}
-use lib.ListN.{length}
+use lib.ListN.{length, replicate}
 use lib.Dec.{eqb}
 use Rattle.definitions.specs.Arena.{Arena}
-use Rattle.definitions.specs.Check.{verdict, Names}
-use Rattle.definitions.specs.Reply.{Reply, reply, refusal}
+use Rattle.definitions.specs.Check.{verdict, brokenSlot, brokenSide}
+use Rattle.definitions.specs.Reply.{Reply, reply}
 use Rattle.definitions.specs.Read.{Pointer, getLink, getLinkNoGen, areNeighbors}
 use Rattle.definitions.specs.Walk.{walkStart, walkStep}
 use Rattle.definitions.specs.Edit.{connect, breakPrev, breakNext, exchangeNext, setGeneration, incGeneration}
@@ -60,15 +59,22 @@ accepted top (Run commands) a l = run top a commands l
 accepted top (CompressWith reset) a l = compressWith top reset a l
 accepted top (CompressCanonical reset) a l = compressCanonical top reset a l
 
--- the reply of a call. Where the check refuses, the call is refused with the same number: the further fields are 0, the arena and what was handed in
--- stay. limit is the capacity limit, top the largest generation (REFERENCE, Replies)
-unfoldable pub replyTo : ℕ → ℕ → Call → Arena → List ℕ → Reply
-replyTo limit top c a l = cond (eqb (verdict limit a) 0) (accepted top c a l) (refusal (verdict limit a) (length (accepted top c a l .fields)) a l)
+-- the reply of every call on an arena that the check refuses: the check's number, slot and side, so many further fields, all 0; the arena and l, what
+-- was handed in, are as they were (REFERENCE, Replies)
+abbrev pub refusedByCheck : ℕ → ℕ → Arena → List ℕ → Reply
+refusedByCheck limit fields a l = record {
+  number = verdict limit a;
+  broken = brokenSlot limit a;
+  side = brokenSide limit a;
+  fields = replicate fields 0;
+  arena = a;
+  back = l;
+}
 
--- what a public call promises: its reply is the one defined. Open is only which link the word `broken` has with 11, if that rule fails at several
-pub record Answers (limit top : ℕ) (c : Call) (a : Arena) (l : List ℕ) (broken : ℕ) (r : Reply) : Type 0 where
-  pub same : r ≡ replyTo limit top c a l
-  pub names : Names limit a broken
+-- the reply of a call, which is what a public call promises: its own where the check passes, else the check's with as many further fields. limit is the
+-- capacity limit, top the largest generation (REFERENCE, Replies)
+unfoldable pub replyTo : ℕ → ℕ → Call → Arena → List ℕ → Reply
+replyTo limit top c a l = cond (eqb (verdict limit a) 0) (accepted top c a l) (refusedByCheck limit (length (accepted top c a l .fields)) a l)
 
 -- calls made one after the other, each with what is handed in: their replies, and the arena in the end
 pub record Made : Type 0 where

@@ -5,7 +5,7 @@ use mathlib.Core.Bool.{Bool, true, false, cond, not, _&&_, _||_}
 use mathlib.Core.List.{List, []}
 use lib.ListN.{length}
 use lib.Dec.{eqb, ltb}
-use Rattle.definitions.specs.Columns.{at, count, firstOr, lastOr, Linked}
+use Rattle.definitions.specs.Columns.{at, count, firstOr, lastOr, slotsFrom, keep, Linked}
 use Rattle.definitions.specs.Arena.{Arena, capacity, headerWords, stackLength, linkCount, root, current, allocated, linkSlots, freeSlots, isLink}
 
 -- 1: the header has not four words, prev is longer than the limit, or another column is not as long as prev (REFERENCE, Check)
@@ -66,10 +66,28 @@ verdict limit a =
 abbrev pub FailsAt : Arena → ℕ → Type 0
 FailsAt a s = neighboursFine (a .prev) (a .next) (a .generation) (stackLength a) s ≡ false
 
--- the word `broken` of an answer: with 11 a link at which the rule fails, whichever, and in every other case 0 (REFERENCE, Replies)
-pub record Names (limit : ℕ) (a : Arena) (broken : ℕ) : Type 0 where
-  pub one : verdict limit a ≡ 11 → FailsAt a broken
-  pub none : (verdict limit a ≡ 11 → ⊥) → broken ≡ 0
+-- the slots of the stack at which rule 11 fails, in rising order
+unfoldable pub brokenSlots : List ℕ → List ℕ → List ℕ → ℕ → List ℕ
+brokenSlots ps ns gs n = keep (λ x. not (neighboursFine ps ns gs n x)) (slotsFrom 1 n)
+
+-- the words for the two sides of a link
+abbrev pub prevSide : ℕ
+prevSide = 1
+
+abbrev pub nextSide : ℕ
+nextSide = 2
+
+-- on which side rule 11 fails at slot x, if it does: prev if x's prev does not name it back, else next
+unfoldable pub sideAt : List ℕ → List ℕ → List ℕ → ℕ → ℕ → ℕ
+sideAt ps ns gs n x = cond (namesBack ns gs n x (at ps x)) nextSide prevSide
+
+-- the words `broken` and `side` of an answer: with 11 the lowest slot at which the rule fails, and on which side; in every other case 0 and 0
+-- (REFERENCE, Replies)
+unfoldable pub brokenSlot : ℕ → Arena → ℕ
+brokenSlot limit a = cond (eqb (verdict limit a) 11) (firstOr 0 (brokenSlots (a .prev) (a .next) (a .generation) (stackLength a))) 0
+
+unfoldable pub brokenSide : ℕ → Arena → ℕ
+brokenSide limit a = cond (eqb (verdict limit a) 11) (sideAt (a .prev) (a .next) (a .generation) (stackLength a) (brokenSlot limit a)) 0
 
 -- fs is the freelist: it begins with the root, next leads from each slot to the one after it and from the last to itself, and fs has every free slot
 -- once and nothing else (REFERENCE, Well-formed arenas)

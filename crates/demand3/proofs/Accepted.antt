@@ -14,7 +14,7 @@ use Rattle.definitions.specs.Check.{verdict, WellFormed}
 use Rattle.definitions.specs.Reply.{Reply, reply, refusal}
 use Rattle.definitions.specs.Edit.{overflows, doneNumber}
 use Rattle.definitions.specs.Compress.{raises, compressGeneration, compressNumber, relocate, compressCanonical}
-use Rattle.definitions.specs.Calls.{CompressCanonical, accepted, replyTo}
+use Rattle.definitions.specs.Calls.{CompressCanonical, accepted, refusedByCheck, replyTo}
 use Rattle.statements.specs.Demand3.{Accepted, Further, compress, Compressed}
 use Rattle.definitions.proofs.Numbers.{verdict-most}
 use Rattle.definitions.proofs.Parts.{take-settled}
@@ -48,7 +48,7 @@ module _ (limit top : ℕ) (f : Further) (a : Arena) where
   unfolding replyTo accepted
   reply-checked e = rw (eq-eqb (verdict limit a) 0 e)
 
-  pub reply-unchecked : verdict limit a ≢ 0 → compress limit top f a ≡ refusal (verdict limit a) (length (accepted top (CompressCanonical (f .reset)) a (f .whereFrom) .fields)) a (f .whereFrom)
+  pub reply-unchecked : verdict limit a ≢ 0 → compress limit top f a ≡ refusedByCheck limit (length (accepted top (CompressCanonical (f .reset)) a (f .whereFrom) .fields)) a (f .whereFrom)
   unfolding replyTo
   reply-unchecked d = rw (ne-eqb (verdict limit a) 0 d)
 

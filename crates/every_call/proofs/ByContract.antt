@@ -17,7 +17,7 @@ use Rattle.definitions.specs.Read.{Pointer}
 use Rattle.definitions.specs.Walk.{walkFrom}
 use Rattle.definitions.specs.Insert.{InsertKind, nowhere, placeOf, newSlot, kind, kindOf}
 use Rattle.definitions.specs.Run.{Command, commandWords, commandsOf, apply, applied, answersOf}
-use Rattle.definitions.specs.Calls.{Call, Check, Insert, Drain, Run, CompressCanonical, accepted, replyTo, Answers, Made, repliesTo, arenaAfter}
+use Rattle.definitions.specs.Calls.{Call, Check, Insert, Drain, Run, CompressCanonical, accepted, replyTo, Made, repliesTo, arenaAfter}
 use Rattle.definitions.proofs.Tests.{by-test}
 use Rattle.definitions.proofs.Count.{In, in-cases, not-in-nil}
 use Rattle.statements.specs.Chains.{Chain, pieces}
@@ -34,58 +34,58 @@ use Rattle.every_call.proofs.EveryCallKeeps.{every-call-keeps, any-call
 use Rattle.every_call.proofs.RunIsFold.{one-command, reply-of-a-run, callsOf, run-by-calls}
 use Rattle.every_call.proofs.Insertions.{done-insert-places, seventeen-exactly-by-call, full-exactly-by-call}
 
-module _ (limit top : ℕ) (a : Arena) (l : List ℕ) (broken : ℕ) (r : Reply) where
-  pub refusal-by-contract : (c : Call) → Answers limit top c a l broken r → (Accepted r → ⊥) → (r .arena ≡ a) × (r .back ≡ l)
+module _ (limit top : ℕ) (a : Arena) (l : List ℕ) (r : Reply) where
+  pub refusal-by-contract : (c : Call) → r ≡ replyTo limit top c a l → (Accepted r → ⊥) → (r .arena ≡ a) × (r .back ≡ l)
   refusal-by-contract c p refused =
-      let u : Unchanged a l r = subst (λ (s : Reply). Unchanged a l s) (sym (p .same)) (refusal-changes-nothing limit top c a l) in
+      let u : Unchanged a l r = subst (λ (s : Reply). Unchanged a l s) (sym p) (refusal-changes-nothing limit top c a l) in
       (u .arena refused, u .back refused)
 
-  pub kept-by-contract : (c : Call) → Answers limit top c a l broken r → WellFormed limit a → WellFormed limit (r .arena)
+  pub kept-by-contract : (c : Call) → r ≡ replyTo limit top c a l → WellFormed limit a → WellFormed limit (r .arena)
   kept-by-contract c p ok =
       let left : verdict limit (r .arena) ≡ 0 =
-      subst (λ (s : Reply). verdict limit (s .arena) ≡ 0) (sym (p .same)) (every-call-keeps limit top c a l (check-passes-exactly-if-well-formed limit a .1 ok))
+      subst (λ (s : Reply). verdict limit (s .arena) ≡ 0) (sym p) (every-call-keeps limit top c a l (check-passes-exactly-if-well-formed limit a .1 ok))
       in
       check-passes-exactly-if-well-formed limit (r .arena) .0 left
 
-  pub drain-by-contract : limit < top → (q : Pointer) → Answers limit top (Drain q) a l broken r → r .number ≡ 0 → DrainsChain limit top a (q .slot) (walkFrom a (q .slot)) l r
+  pub drain-by-contract : limit < top → (q : Pointer) → r ≡ replyTo limit top (Drain q) a l → r .number ≡ 0 → DrainsChain limit top a (q .slot) (walkFrom a (q .slot)) l r
   drain-by-contract enough q p done =
-      subst (λ (s : Reply). DrainsChain limit top a (q .slot) (walkFrom a (q .slot)) l s) (sym (p .same))
-      (done-drain-takes-the-chain limit top enough a q l (ap (λ (s : Reply). s .number) (sym (p .same)) ∙ done))
+      subst (λ (s : Reply). DrainsChain limit top a (q .slot) (walkFrom a (q .slot)) l s) (sym p)
+      (done-drain-takes-the-chain limit top enough a q l (ap (λ (s : Reply). s .number) (sym p) ∙ done))
 
-  pub insert-by-contract : (code x : ℕ) (p q : Pointer) → Answers limit top (Insert code p q x) a l broken r → r .number ≡ 0 →
+  pub insert-by-contract : (code x : ℕ) (p q : Pointer) → r ≡ replyTo limit top (Insert code p q x) a l → r .number ≡ 0 →
       (k : InsertKind) × (kindOf code p q ≡ kind k) × (r .fields ≡ newSlot a ∷ current a ∷ []) × InsertPlaces a (r .arena) k (newSlot a) x
   insert-by-contract code x p q kept done =
-      subst (λ (s : Reply). (k : InsertKind) × (kindOf code p q ≡ kind k) × (s .fields ≡ newSlot a ∷ current a ∷ []) × InsertPlaces a (s .arena) k (newSlot a) x) (sym (kept .same))
-      (done-insert-places limit top a p q code x l (ap (λ (s : Reply). s .number) (sym (kept .same)) ∙ done))
+      subst (λ (s : Reply). (k : InsertKind) × (kindOf code p q ≡ kind k) × (s .fields ≡ newSlot a ∷ current a ∷ []) × InsertPlaces a (s .arena) k (newSlot a) x) (sym kept)
+      (done-insert-places limit top a p q code x l (ap (λ (s : Reply). s .number) (sym kept) ∙ done))
 
-  pub seventeen-by-contract : (code x : ℕ) (p q : Pointer) → Answers limit top (Insert code p q x) a l broken r → verdict limit a ≡ 0 → (k : InsertKind) → kindOf code p q ≡ kind k →
+  pub seventeen-by-contract : (code x : ℕ) (p q : Pointer) → r ≡ replyTo limit top (Insert code p q x) a l → verdict limit a ≡ 0 → (k : InsertKind) → kindOf code p q ≡ kind k →
       (r .number ≡ 17) ↔ (AllThere a k → (d : Chain) → Makes a (newSlot a) k d → ⊥)
-  seventeen-by-contract code x p q kept passes k e = rw (kept .same) (seventeen-exactly-by-call limit top a p q code x l passes k e)
+  seventeen-by-contract code x p q kept passes k e = rw kept (seventeen-exactly-by-call limit top a p q code x l passes k e)
 
-  pub full-by-contract : (code x : ℕ) (p q : Pointer) → Answers limit top (Insert code p q x) a l broken r → verdict limit a ≡ 0 → (k : InsertKind) → kindOf code p q ≡ kind k →
+  pub full-by-contract : (code x : ℕ) (p q : Pointer) → r ≡ replyTo limit top (Insert code p q x) a l → verdict limit a ≡ 0 → (k : InsertKind) → kindOf code p q ≡ kind k →
       (r .number ≡ 18) ↔ ((placeOf a (newSlot a) k ≡ nowhere → ⊥) × (linkCount a ≡ capacity a))
-  full-by-contract code x p q kept passes k e = rw (kept .same) (full-exactly-by-call limit top a p q code x l passes k e)
+  full-by-contract code x p q kept passes k e = rw kept (full-exactly-by-call limit top a p q code x l passes k e)
 
-  pub compressed-by-contract : (reset : Bool) → Answers limit top (CompressCanonical reset) a l broken r → Accepted r → Compressed limit top a (r .arena) (r .back)
+  pub compressed-by-contract : (reset : Bool) → r ≡ replyTo limit top (CompressCanonical reset) a l → Accepted r → Compressed limit top a (r .arena) (r .back)
   compressed-by-contract reset p done =
       record {
         call = record { reset = reset; whereFrom = l };
-        accepted = subst Accepted (p .same) done;
-        left = ap (λ (s : Reply). s .arena) (sym (p .same));
-        whereFrom = ap (λ (s : Reply). s .back) (sym (p .same));
+        accepted = subst Accepted p done;
+        left = ap (λ (s : Reply). s .arena) (sym p);
+        whereFrom = ap (λ (s : Reply). s .back) (sym p);
       }
 
-  pub demand-3-by-contract : (reset : Bool) → Answers limit top (CompressCanonical reset) a l broken r → Accepted r →
+  pub demand-3-by-contract : (reset : Bool) → r ≡ replyTo limit top (CompressCanonical reset) a l → Accepted r →
       OfOne limit top a (r .arena) (take (linkCount a) (r .back)) (linkCount a) (pieces (at (r .arena .next)) (linkCount a))
   demand-3-by-contract reset p done = demand-3-at limit top .one a (r .arena) (r .back) (compressed-by-contract reset p done)
 
   -- a run of whole commands with room for their answers
-  pub run-by-contract : (ws : List ℕ) → Answers limit top (Run ws) a l broken r → verdict limit a ≡ 0 → length ws % commandWords ≡ 0 → length ws / commandWords ≤ length l →
+  pub run-by-contract : (ws : List ℕ) → r ≡ replyTo limit top (Run ws) a l → verdict limit a ≡ 0 → length ws % commandWords ≡ 0 → length ws / commandWords ≤ length l →
       r ≡ reply 0 [] (applied top a (commandsOf ws)) (written (answersOf top a (commandsOf ws)) l)
-  run-by-contract ws p passes whole room = p .same ∙ reply-of-a-run limit top a ws l passes whole room
+  run-by-contract ws p passes whole room = p ∙ reply-of-a-run limit top a ws l passes whole room
 
   -- and what it leaves and answers is what the calls of its commands would, made one after the other
-  pub run-calls-by-contract : (ws : List ℕ) → Answers limit top (Run ws) a l broken r → verdict limit a ≡ 0 → length ws % commandWords ≡ 0 → length ws / commandWords ≤ length l →
+  pub run-calls-by-contract : (ws : List ℕ) → r ≡ replyTo limit top (Run ws) a l → verdict limit a ≡ 0 → length ws % commandWords ≡ 0 → length ws / commandWords ≤ length l →
       (r .arena ≡ arenaAfter limit top (callsOf (commandsOf ws)) a) × (r .back ≡ written (map (λ (s : Reply). s .number) (repliesTo limit top (callsOf (commandsOf ws)) a)) l)
   run-calls-by-contract ws p passes whole room =
       let same = run-by-contract ws p passes whole room in
@@ -93,15 +93,15 @@ module _ (limit top : ℕ) (a : Arena) (l : List ℕ) (broken : ℕ) (r : Reply)
       (ap (λ (s : Reply). s .arena) same ∙ calls .0, ap (λ (s : Reply). s .back) same ∙ ap (λ (w : List ℕ). written w l) (calls .1))
 
   -- the check answers none but the eleven rules
-  pub check-by-contract : Answers limit top Check a l broken r → r .number ≤ 11
+  pub check-by-contract : r ≡ replyTo limit top Check a l → r .number ≤ 11
   unfolding replyTo accepted
-  check-by-contract p = subst (λ (s : Reply). s .number ≤ 11) (sym (p .same)) (by-test (eqb (verdict limit a) 0) (λ t. rw t (omega arith)) (λ t. rw t (verdict-bound limit a)))
+  check-by-contract p = subst (λ (s : Reply). s .number ≤ 11) (sym p) (by-test (eqb (verdict limit a) 0) (λ t. rw t (omega arith)) (λ t. rw t (verdict-bound limit a)))
 
 -- demand 3 at the port's own limits
-pub demand-3-of-the-port : (a : Arena) (l : List ℕ) (broken : ℕ) (r : Reply) (reset : Bool) → Answers capacityLimit largestGeneration (CompressCanonical reset) a l broken r → Accepted r →
+pub demand-3-of-the-port : (a : Arena) (l : List ℕ) (r : Reply) (reset : Bool) → r ≡ replyTo capacityLimit largestGeneration (CompressCanonical reset) a l → Accepted r →
     OfOne capacityLimit largestGeneration a (r .arena) (take (linkCount a) (r .back)) (linkCount a) (pieces (at (r .arena .next)) (linkCount a))
-demand-3-of-the-port a l broken r reset p done =
-    demand-3 .one a (r .arena) (r .back) (compressed-by-contract capacityLimit largestGeneration a l broken r reset p done)
+demand-3-of-the-port a l r reset p done =
+    demand-3 .one a (r .arena) (r .back) (compressed-by-contract capacityLimit largestGeneration a l r reset p done)
 
 module _ (limit top : ℕ) (a : Arena) (ok : WellFormed limit a) where
   -- calls made one after the other, and commands of a run

@@ -5,12 +5,13 @@ use mathlib.Core.Path.{_≡_, refl, sym, ap, subst, _∙_}
 use mathlib.Core.Logic.{_⊎_, inl, inr, _↔_}
 use mathlib.Core.Bool.{Bool, true, false}
 use mathlib.Core.List.{List, [], _∷_, _++_, map, reverse}
+use native.Mathlib.Omega.{arith}
 use lib.ListN.{length, replicate, take, getD}
 use lib.Dec.{eqb}
 use borrow.Author.Tests.{eq-eqb, ne-eqb, eqb-true}
 use Rattle.definitions.specs.Columns.{at, count, written, settled}
 use Rattle.definitions.specs.Arena.{Arena, arena, capacity, stackLength, linkCount, current, linkSlots, isLink}
-use Rattle.definitions.specs.Check.{verdict, FailsAt, WellFormed, SameRead}
+use Rattle.definitions.specs.Check.{verdict, FailsAt, brokenSlot, brokenSide, WellFormed, SameRead}
 use Rattle.definitions.specs.Reply.{Reply, reply}
 use Rattle.definitions.specs.Read.{Pointer, pointer, stale}
 use Rattle.definitions.specs.Walk.{Walk, startAt, stateOf, step, walkStart, walkStep, walkFrom}
@@ -18,7 +19,7 @@ use Rattle.definitions.specs.Remove.{drain}
 use Rattle.definitions.specs.Insert.{InsertKind, nowhere, placeOf, newSlot, insert, kind, unknown, kindOf}
 use Rattle.definitions.specs.Run.{Command, commandsOf, apply, applied, answersOf}
 use Rattle.definitions.specs.Compress.{compressGeneration, relocate, compressWith, laidOut, canonicalArena, compressCanonical}
-use Rattle.definitions.specs.Calls.{Call, Made, Check, WalkStart, WalkStep, Insert, Drain, Run, CompressWith, CompressCanonical, accepted, replyTo, callOf, repliesTo, arenaAfter, Answers}
+use Rattle.definitions.specs.Calls.{Call, Made, Check, WalkStart, WalkStep, Insert, Drain, Run, CompressWith, CompressCanonical, accepted, replyTo, callOf, repliesTo, arenaAfter}
 use Rattle.definitions.proofs.Tests.{by-test, not-eq}
 use Rattle.statements.specs.Chains.{IsOpen, IsClosed, Chain, Alike, Listing, OnOneChain, Renaming, pieces, replaced, Paired, HoldTheSame}
 use Rattle.statements.specs.Demand3.{Agree, Further, made, Compressed, OfOne, Unmoved, Demand3}
@@ -26,9 +27,10 @@ use Rattle.statements.specs.WalkOrder.{Walks}
 use Rattle.statements.specs.Answers.{answers}
 use Rattle.statements.specs.DrainsChain.{DrainsChain}
 use Rattle.statements.specs.InsertPlaces.{Makes, AllThere, InsertPlaces}
+use Rattle.statements.specs.BrokenSlot.{LowestBroken, NamesLowest}
 use Rattle.statements.specs.EveryCall.{Unchanged, AnswerWord, OneCommand}
 use Rattle.well_formed.proofs.WellFormed.{check-passes-exactly-if-well-formed}
-use Rattle.well_formed.proofs.ReadsOnly.{verdict-reads-only, payloads-are-not-read}
+use Rattle.well_formed.proofs.ReadsOnly.{verdict-reads-only, broken-reads-only, payloads-are-not-read}
 use Rattle.well_formed.proofs.Verdict.{eleven-fails, verdict-bound}
 use Rattle.chains.proofs.Links.{well-formed-linked}
 use Rattle.demand3.proofs.Equivalence.{well-formed-room}
@@ -50,6 +52,7 @@ use Rattle.demand3.proofs.Equivalence.{exchanges-are-renaming, where-from, link
 use Rattle.demand3.proofs.Computed.{canonical-overflows, canonical-resets, order-preserving-overflows, moving-nothing-is-refused}
 use Rattle.demand3.proofs.Demand3.{demand-3, demand-3-at}
 use Rattle.every_call.proofs.RefusalChangesNothing.{refusal-changes-nothing}
+use Rattle.every_call.proofs.BrokenSlot.{broken-slot-is-lowest, lowest-broken-is-one, eleven-by-call, names-lowest, names-lowest-by-contract}
 use Rattle.every_call.proofs.EveryCallKeeps.{every-call-keeps, any-calls-keep, inside-a-run}
 use Rattle.every_call.proofs.CapacityStays.{capacity-stays, capacity-after-calls}
 use Rattle.every_call.proofs.RunIsFold.{reply-of-a-run, command-by-call, run-by-calls, one-command}
@@ -71,19 +74,48 @@ eleven-fails-in-full = eleven-fails
 pub verdict-bound-in-full : (limit : ℕ) (a : Arena) → verdict limit a ≤ 11
 verdict-bound-in-full = verdict-bound
 
--- the check answers the verdict, and so does every call where that is not 0
-pub check-answers-the-verdict : (limit top : ℕ) (a : Arena) (l : List ℕ) → replyTo limit top Check a l ≡ reply (verdict limit a) [] a l
+-- the check answers the verdict with its slot and side, and so does every call where that is not 0
+pub check-answers-the-verdict : (limit top : ℕ) (a : Arena) (l : List ℕ) →
+    replyTo limit top Check a l ≡ record { number = verdict limit a; broken = brokenSlot limit a; side = brokenSide limit a; fields = []; arena = a; back = l }
 unfolding replyTo accepted
-check-answers-the-verdict limit top a l = by-test (eqb (verdict limit a) 0) (λ t. rw (t, eqb-true (verdict limit a) 0 t) refl) (λ t. rw t refl)
+check-answers-the-verdict limit top a l = by-test (eqb (verdict limit a) 0) passes (λ t. rw t refl)
+  where
+    passes : eqb (verdict limit a) 0 ≡ true → replyTo limit top Check a l ≡ record { number = verdict limit a; broken = brokenSlot limit a; side = brokenSide limit a; fields = []; arena = a; back = l }
+    passes t =
+        let v = eqb-true (verdict limit a) 0 t in
+        let none = broken-slot-is-lowest limit a .1 (λ e. omega arith) in
+        rw (none .0, none .1, t, v) refl
 
-pub refused-by-the-check : (limit top : ℕ) (c : Call) (a : Arena) (l : List ℕ) → (verdict limit a ≡ 0 → ⊥) → (replyTo limit top c a l .number ≡ verdict limit a) × (replyTo limit top c a l .arena ≡ a) × (replyTo limit top c a l .back ≡ l)
+pub refused-by-the-check : (limit top : ℕ) (c : Call) (a : Arena) (l : List ℕ) → (verdict limit a ≡ 0 → ⊥) →
+    (replyTo limit top c a l .number ≡ verdict limit a)
+    × (replyTo limit top c a l .broken ≡ brokenSlot limit a)
+    × (replyTo limit top c a l .side ≡ brokenSide limit a)
+    × (replyTo limit top c a l .arena ≡ a)
+    × (replyTo limit top c a l .back ≡ l)
 unfolding replyTo
-refused-by-the-check limit top c a l broken = let e = ne-eqb (verdict limit a) 0 broken in (rw e refl, rw e refl, rw e refl)
+refused-by-the-check limit top c a l broken = let e = ne-eqb (verdict limit a) 0 broken in (rw e refl, rw e refl, rw e refl, rw e refl, rw e refl)
+
+-- with 11 it is the lowest slot at which the rule fails, on the side that it fails, prev before next; and with any other number there is none
+pub broken-slot-is-lowest-in-full : (limit : ℕ) (a : Arena) →
+    (verdict limit a ≡ 11 → LowestBroken a (brokenSlot limit a) (brokenSide limit a)) × ((verdict limit a ≡ 11 → ⊥) → (brokenSlot limit a ≡ 0) × (brokenSide limit a ≡ 0))
+broken-slot-is-lowest-in-full = broken-slot-is-lowest
+
+pub lowest-broken-is-one-in-full : (a : Arena) (s t d e : ℕ) → LowestBroken a s d → LowestBroken a t e → (s ≡ t) × (d ≡ e)
+lowest-broken-is-one-in-full = lowest-broken-is-one
+
+pub broken-reads-only-in-full : (a b : Arena) → SameRead a b → (limit : ℕ) → (brokenSlot limit a ≡ brokenSlot limit b) × (brokenSide limit a ≡ brokenSide limit b)
+broken-reads-only-in-full = broken-reads-only
 
 pub payloads-are-not-read-in-full : (limit : ℕ) (ps ns gs vs ws h : List ℕ) → length vs ≡ length ws → verdict limit (arena ps ns gs vs h) ≡ verdict limit (arena ps ns gs ws h)
 payloads-are-not-read-in-full = payloads-are-not-read
 
 -- ---- every call
+
+pub eleven-by-call-in-full : (limit top : ℕ) (c : Call) (a : Arena) (l : List ℕ) → (replyTo limit top c a l .number ≡ 11) ↔ (verdict limit a ≡ 11)
+eleven-by-call-in-full = eleven-by-call
+
+pub names-lowest-in-full : (limit top : ℕ) (c : Call) (a : Arena) (l : List ℕ) → NamesLowest a (replyTo limit top c a l)
+names-lowest-in-full = names-lowest
 
 pub refusal-changes-nothing-in-full : (limit top : ℕ) (c : Call) (a : Arena) (l : List ℕ) → Unchanged a l (replyTo limit top c a l)
 refusal-changes-nothing-in-full = refusal-changes-nothing
@@ -341,58 +373,58 @@ moving-nothing-is-refused-in-full = moving-nothing-is-refused
 -- ---- the contract
 
 module _ (limit top : ℕ) (c : Call) (a : Arena) (l : List ℕ) where
-  pub contract-determines-in-full : (x y : ℕ) (r s : Reply) → Answers limit top c a l x r → Answers limit top c a l y s →
-      (r ≡ s) × ((verdict limit a ≡ 11 → ⊥) → x ≡ y) × (verdict limit a ≡ 11 → ((isLink a x ≡ true) × FailsAt a x) × ((isLink a y ≡ true) × FailsAt a y))
+  pub contract-determines-in-full : (r s : Reply) → r ≡ replyTo limit top c a l → s ≡ replyTo limit top c a l → r ≡ s
   contract-determines-in-full = contract-determines limit top c a l
 
-  pub contract-can-be-kept-in-full : (s : ℕ) × (r : Reply) × Answers limit top c a l s r
+  pub contract-can-be-kept-in-full : (r : Reply) × (r ≡ replyTo limit top c a l)
   contract-can-be-kept-in-full = contract-can-be-kept limit top c a l
 
-module _ (limit top : ℕ) (f g : Call → Arena → List ℕ → Reply) (x y : Call → Arena → List ℕ → ℕ) where
-  pub programs-agree-in-full : ((c : Call) (a : Arena) (l : List ℕ) → Answers limit top c a l (x c a l) (f c a l)) → ((c : Call) (a : Arena) (l : List ℕ) → Answers limit top c a l (y c a l) (g c a l)) →
-      (c : Call) (a : Arena) (l : List ℕ) → (f c a l ≡ g c a l)
-      × ((x c a l ≡ y c a l) ⊎ (((isLink a (x c a l) ≡ true) × FailsAt a (x c a l)) × ((isLink a (y c a l) ≡ true) × FailsAt a (y c a l))))
-  programs-agree-in-full = programs-agree limit top f g x y
+  pub names-lowest-by-contract-in-full : (r : Reply) → r ≡ replyTo limit top c a l → NamesLowest a r
+  names-lowest-by-contract-in-full = names-lowest-by-contract limit top c a l
 
-module _ (limit top : ℕ) (a : Arena) (l : List ℕ) (broken : ℕ) (r : Reply) where
-  pub refusal-by-contract-in-full : (c : Call) → Answers limit top c a l broken r → ((r .number ≡ 0) ⊎ (r .number ≡ 100) → ⊥) → (r .arena ≡ a) × (r .back ≡ l)
-  refusal-by-contract-in-full = refusal-by-contract limit top a l broken r
+pub programs-agree-in-full : (limit top : ℕ) (f g : Call → Arena → List ℕ → Reply) → ((c : Call) (a : Arena) (l : List ℕ) → f c a l ≡ replyTo limit top c a l)
+    → ((c : Call) (a : Arena) (l : List ℕ) → g c a l ≡ replyTo limit top c a l) → (c : Call) (a : Arena) (l : List ℕ) → f c a l ≡ g c a l
+programs-agree-in-full = programs-agree
 
-  pub kept-by-contract-in-full : (c : Call) → Answers limit top c a l broken r → WellFormed limit a → WellFormed limit (r .arena)
-  kept-by-contract-in-full = kept-by-contract limit top a l broken r
+module _ (limit top : ℕ) (a : Arena) (l : List ℕ) (r : Reply) where
+  pub refusal-by-contract-in-full : (c : Call) → r ≡ replyTo limit top c a l → ((r .number ≡ 0) ⊎ (r .number ≡ 100) → ⊥) → (r .arena ≡ a) × (r .back ≡ l)
+  refusal-by-contract-in-full = refusal-by-contract limit top a l r
 
-  pub drain-by-contract-in-full : limit < top → (q : Pointer) → Answers limit top (Drain q) a l broken r → r .number ≡ 0 → DrainsChain limit top a (q .slot) (walkFrom a (q .slot)) l r
-  drain-by-contract-in-full = drain-by-contract limit top a l broken r
+  pub kept-by-contract-in-full : (c : Call) → r ≡ replyTo limit top c a l → WellFormed limit a → WellFormed limit (r .arena)
+  kept-by-contract-in-full = kept-by-contract limit top a l r
 
-  pub insert-by-contract-in-full : (code x : ℕ) (p q : Pointer) → Answers limit top (Insert code p q x) a l broken r → r .number ≡ 0 →
+  pub drain-by-contract-in-full : limit < top → (q : Pointer) → r ≡ replyTo limit top (Drain q) a l → r .number ≡ 0 → DrainsChain limit top a (q .slot) (walkFrom a (q .slot)) l r
+  drain-by-contract-in-full = drain-by-contract limit top a l r
+
+  pub insert-by-contract-in-full : (code x : ℕ) (p q : Pointer) → r ≡ replyTo limit top (Insert code p q x) a l → r .number ≡ 0 →
       (k : InsertKind) × (kindOf code p q ≡ kind k) × (r .fields ≡ newSlot a ∷ current a ∷ []) × InsertPlaces a (r .arena) k (newSlot a) x
-  insert-by-contract-in-full = insert-by-contract limit top a l broken r
+  insert-by-contract-in-full = insert-by-contract limit top a l r
 
-  pub seventeen-by-contract-in-full : (code x : ℕ) (p q : Pointer) → Answers limit top (Insert code p q x) a l broken r → verdict limit a ≡ 0 → (k : InsertKind) → kindOf code p q ≡ kind k →
+  pub seventeen-by-contract-in-full : (code x : ℕ) (p q : Pointer) → r ≡ replyTo limit top (Insert code p q x) a l → verdict limit a ≡ 0 → (k : InsertKind) → kindOf code p q ≡ kind k →
       (r .number ≡ 17) ↔ (AllThere a k → (d : Chain) → Makes a (newSlot a) k d → ⊥)
-  seventeen-by-contract-in-full = seventeen-by-contract limit top a l broken r
+  seventeen-by-contract-in-full = seventeen-by-contract limit top a l r
 
-  pub full-by-contract-in-full : (code x : ℕ) (p q : Pointer) → Answers limit top (Insert code p q x) a l broken r → verdict limit a ≡ 0 → (k : InsertKind) → kindOf code p q ≡ kind k →
+  pub full-by-contract-in-full : (code x : ℕ) (p q : Pointer) → r ≡ replyTo limit top (Insert code p q x) a l → verdict limit a ≡ 0 → (k : InsertKind) → kindOf code p q ≡ kind k →
       (r .number ≡ 18) ↔ ((placeOf a (newSlot a) k ≡ nowhere → ⊥) × (linkCount a ≡ capacity a))
-  full-by-contract-in-full = full-by-contract limit top a l broken r
+  full-by-contract-in-full = full-by-contract limit top a l r
 
-  pub demand-3-by-contract-in-full : (reset : Bool) → Answers limit top (CompressCanonical reset) a l broken r → (r .number ≡ 0) ⊎ (r .number ≡ 100) →
+  pub demand-3-by-contract-in-full : (reset : Bool) → r ≡ replyTo limit top (CompressCanonical reset) a l → (r .number ≡ 0) ⊎ (r .number ≡ 100) →
       OfOne limit top a (r .arena) (take (linkCount a) (r .back)) (linkCount a) (pieces (at (r .arena .next)) (linkCount a))
-  demand-3-by-contract-in-full = demand-3-by-contract limit top a l broken r
+  demand-3-by-contract-in-full = demand-3-by-contract limit top a l r
 
-  pub run-by-contract-in-full : (ws : List ℕ) → Answers limit top (Run ws) a l broken r → verdict limit a ≡ 0 → length ws % 6 ≡ 0 → length ws / 6 ≤ length l →
+  pub run-by-contract-in-full : (ws : List ℕ) → r ≡ replyTo limit top (Run ws) a l → verdict limit a ≡ 0 → length ws % 6 ≡ 0 → length ws / 6 ≤ length l →
       r ≡ reply 0 [] (applied top a (commandsOf ws)) (written (answersOf top a (commandsOf ws)) l)
-  run-by-contract-in-full = run-by-contract limit top a l broken r
+  run-by-contract-in-full = run-by-contract limit top a l r
 
-  pub run-calls-by-contract-in-full : (ws : List ℕ) → Answers limit top (Run ws) a l broken r → verdict limit a ≡ 0 → length ws % 6 ≡ 0 → length ws / 6 ≤ length l →
+  pub run-calls-by-contract-in-full : (ws : List ℕ) → r ≡ replyTo limit top (Run ws) a l → verdict limit a ≡ 0 → length ws % 6 ≡ 0 → length ws / 6 ≤ length l →
       (r .arena ≡ arenaAfter limit top (map (λ (c : Command). record { call = callOf c; hands = [] }) (commandsOf ws)) a)
       × (r .back ≡ written (map (λ (s : Reply). s .number) (repliesTo limit top (map (λ (c : Command). record { call = callOf c; hands = [] }) (commandsOf ws)) a)) l)
-  run-calls-by-contract-in-full = run-calls-by-contract limit top a l broken r
+  run-calls-by-contract-in-full = run-calls-by-contract limit top a l r
 
-  pub check-by-contract-in-full : Answers limit top Check a l broken r → r .number ≤ 11
-  check-by-contract-in-full = check-by-contract limit top a l broken r
+  pub check-by-contract-in-full : r ≡ replyTo limit top Check a l → r .number ≤ 11
+  check-by-contract-in-full = check-by-contract limit top a l r
 
-pub demand-3-of-the-port-in-full : (a : Arena) (l : List ℕ) (broken : ℕ) (r : Reply) (reset : Bool) → Answers 65535 4294967295 (CompressCanonical reset) a l broken r → (r .number ≡ 0) ⊎ (r .number ≡ 100) →
+pub demand-3-of-the-port-in-full : (a : Arena) (l : List ℕ) (r : Reply) (reset : Bool) → r ≡ replyTo 65535 4294967295 (CompressCanonical reset) a l → (r .number ≡ 0) ⊎ (r .number ≡ 100) →
     OfOne 65535 4294967295 a (r .arena) (take (linkCount a) (r .back)) (linkCount a) (pieces (at (r .arena .next)) (linkCount a))
 demand-3-of-the-port-in-full = demand-3-of-the-port
 

@@ -1,4 +1,6 @@
+pub mod OwnReplies
 pub mod RefusalChangesNothing
+pub mod BrokenSlot
 pub mod EveryCallKeeps
 pub mod CapacityStays
 pub mod RunIsFold

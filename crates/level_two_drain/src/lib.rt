@@ -4,11 +4,10 @@ ghost use mathlib.Core.Path.{_≡_};
 ghost use Prim.Native.Nat.{ℕ};
 ghost use Rattle.definitions.specs.Arena.{Arena};
 ghost use Rattle.definitions.specs.Lent.{atEntry, atExit};
-ghost use Rattle.definitions.specs.Reply.{reply};
 ghost use Rattle.definitions.specs.Read.{pointer};
 ghost use Rattle.definitions.specs.Calls.{Drain};
 ghost use Rattle.chain_drain.specs.Drained.{drainReply};
-ghost use Rattle.answers.specs.Answered.{Answered};
+ghost use Rattle.answers.specs.Answered.{replied, Answered};
 use answers::Answer;
 use answers::checked;
 use chain_drain::Drained;
@@ -27,7 +26,7 @@ pub struct DrainResult {
 
 // What the host is told of a drain on an arena that passed the check.
 fn drain_result(d: Drained) -> DrainResult
-    ensures { λ r. ⌜ (r .answer .broken ≡ 0) × ((a : Arena) (l : List ℕ) → reply (r .answer .number) (r .items ∷ r .overflowed ∷ []) a l ≡ drainReply d a l) ⌝ }
+    ensures { λ r. ⌜ ((a : Arena) (l : List ℕ) → replied (r .answer) (r .items ∷ r .overflowed ∷ []) a l ≡ drainReply d a l) ⌝ }
 {
     match d {
         Drained::Done { items, overflowed } => DrainResult {

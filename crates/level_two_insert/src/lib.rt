@@ -4,11 +4,10 @@ ghost use mathlib.Core.Path.{_≡_};
 ghost use Prim.Native.Nat.{ℕ};
 ghost use Rattle.definitions.specs.Arena.{Arena};
 ghost use Rattle.definitions.specs.Lent.{atEntry, atExit};
-ghost use Rattle.definitions.specs.Reply.{reply};
 ghost use Rattle.definitions.specs.Read.{pointer};
 ghost use Rattle.definitions.specs.Calls.{Insert};
 ghost use Rattle.chain_insertion.specs.Inserted.{insertedReply};
-ghost use Rattle.answers.specs.Answered.{Answered};
+ghost use Rattle.answers.specs.Answered.{replied, Answered};
 use answers::Answer;
 use answers::checked;
 use chain_insertion::Inserted;
@@ -27,7 +26,7 @@ pub struct InsertResult {
 
 // What the host is told of an insertion into an arena that passed the check.
 fn insert_result(inserted: Inserted) -> InsertResult
-    ensures { λ r. ⌜ (r .answer .broken ≡ 0) × ((a : Arena) (l : List ℕ) → reply (r .answer .number) (r .slot ∷ r .generation ∷ []) a l ≡ insertedReply inserted a l) ⌝ }
+    ensures { λ r. ⌜ ((a : Arena) (l : List ℕ) → replied (r .answer) (r .slot ∷ r .generation ∷ []) a l ≡ insertedReply inserted a l) ⌝ }
 {
     let answer = Answer::of(inserted.number());
     match inserted {

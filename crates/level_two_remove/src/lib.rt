@@ -4,11 +4,10 @@ ghost use mathlib.Core.Path.{_≡_};
 ghost use Prim.Native.Nat.{ℕ};
 ghost use Rattle.definitions.specs.Arena.{Arena};
 ghost use Rattle.definitions.specs.Lent.{atEntry, atExit};
-ghost use Rattle.definitions.specs.Reply.{reply};
 ghost use Rattle.definitions.specs.Read.{pointer};
 ghost use Rattle.definitions.specs.Calls.{Remove};
 ghost use Rattle.links.specs.Links.{removalReply};
-ghost use Rattle.answers.specs.Answered.{Answered};
+ghost use Rattle.answers.specs.Answered.{replied, Answered};
 use answers::Answer;
 use answers::LinkNoGenResult;
 use answers::checked;
@@ -20,7 +19,7 @@ use ptr::Slot;
 
 // What the host is told of a removal from an arena that passed the check.
 fn remove_result(removed: InvalidationResult) -> LinkNoGenResult
-    ensures { λ r. ⌜ (r .answer .broken ≡ 0) × ((a : Arena) (l : List ℕ) → reply (r .answer .number) (r .prev ∷ r .next ∷ r .payload ∷ []) a l ≡ removalReply removed a l) ⌝ }
+    ensures { λ r. ⌜ ((a : Arena) (l : List ℕ) → replied (r .answer) (r .prev ∷ r .next ∷ r .payload ∷ []) a l ≡ removalReply removed a l) ⌝ }
 {
     let answer = Answer::of(removed.number());
     match removed {

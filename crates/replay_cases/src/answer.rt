@@ -8,10 +8,11 @@ pub fn write_word(word: u32) {
     io::print_decimal(1, word as u64);
 }
 
-// Writes what every answer begins with: its number, and 1 if it names a broken slot, else 0.
+// Writes what every answer begins with: its number, and the slot and the side that it names.
 pub fn write_answer(answer: Answer) {
     io::print_decimal(1, answer.number as u64);
-    write_word((0 < answer.broken) as u32);
+    write_word(answer.broken);
+    write_word(answer.side);
 }
 
 // Writes a link, as it is or as it was when it was removed.

@@ -3,7 +3,7 @@
 //
 // A program's file stdin holds its cases, one a line of decimal numbers: the call's code; the number of slots; the shape, 1 to 5 if that column or the
 // header is lent one word short, else 0; the columns prev, next, generation and payload; the header; then the argument words and the words of the lent
-// slice, each behind their number. Its file stdout holds the answers, a line for each: the number; 1 if a broken slot is named, else 0; the further fields;
+// slice, each behind their number. Its file stdout holds the answers, a line for each: the number; the broken slot and its side; the further fields;
 // then the lent slice, the columns and the header as the call left them.
 //
 // Both files were made by `cargo run --release -p oracle --bin record` from the crate's own text and, where it has no answer, from the model in

@@ -3,6 +3,7 @@
 -- whatever its proof is, and they stop holding when a field says less. Assumes nothing.
 pub mod Chains
 pub mod Compressions
+pub mod BrokenSlots
 pub mod Calls
 pub mod Walks
 pub mod Drains

@@ -4,4 +4,5 @@ pub mod WalkOrder
 pub mod Answers
 pub mod DrainsChain
 pub mod InsertPlaces
+pub mod BrokenSlot
 pub mod EveryCall

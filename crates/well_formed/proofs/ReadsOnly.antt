@@ -1,21 +1,23 @@
--- The verdict depends only on the words that the check reads (REFERENCE, Check): the header, the lengths of the columns, the generation and next
+-- The verdict, and the slot and side that go with it, depend only on the words that the check reads (REFERENCE, Check): the header, the lengths of the columns, the generation and next
 -- words of the stack, and the prev words of its links. Two arenas that agree on those words have the same links and free slots; the freelist walk
 -- reads next and generation of slots that it has found to be in the stack; and rule 11 reads prev and next of links only. Assumes nothing.
 use Prim.Native.Nat.{ℕ, zero, suc, _+_, _≤_}
 use mathlib.Core.Path.{_≡_, refl, sym, ap, _∙_}
-use mathlib.Core.Bool.{true, not}
+use mathlib.Core.Bool.{true, cond, not}
 use mathlib.Core.List.{List}
 use native.Mathlib.Omega.{arith}
-use native.Mathlib.Decide.{decLe}
+use native.Mathlib.Decide.{decLe, ℕ-discrete}
 use lib.ListN.{length, getD}
 use borrow.Author.Tests.{lt-ltb}
-use Rattle.definitions.specs.Columns.{at, slotsFrom}
-use Rattle.definitions.specs.Arena.{Arena, arena, stackLength, linkCount, root, allocated, linkSlots, freeSlots}
-use Rattle.definitions.specs.Check.{misshapen, freelistWalk, namesBack, neighboursFine, allFine, countsOf, verdict, SameRead}
+use Rattle.definitions.specs.Columns.{at, firstOr, slotsFrom, keep}
+use Rattle.definitions.specs.Arena.{Arena, arena, stackLength, linkCount, root, allocated, linkSlots, freeSlots, isLink}
+use Rattle.definitions.specs.Check.{misshapen, freelistWalk, namesBack, neighboursFine, allFine, countsOf, verdict, brokenSlots, sideAt, brokenSlot, brokenSide, SameRead}
 use Rattle.definitions.proofs.Tests.{by-test}
 use Rattle.definitions.proofs.Slots.{allocated-past, allocated-within}
 use Rattle.definitions.proofs.Count.{keep-agree}
 use Rattle.definitions.proofs.Shaped.{countsVerdict, interlinksFine}
+use Rattle.definitions.proofs.Broken.{lowestBroken, first-lowest, slot-with-eleven, side-with-eleven, slot-without, side-without}
+use Rattle.well_formed.proofs.Verdict.{eleven-broken, fails-at-links}
 
 -- two columns agree on the slots up to n
 abbrev AgreeTo : ℕ → List ℕ → List ℕ → Type 0
@@ -84,6 +86,38 @@ pub verdict-reads-only : (limit : ℕ) (a b : Arena) → SameRead a b → verdic
 unfolding verdict
 verdict-reads-only limit a b same =
     rw (same-counts-verdict a b same, same-interlinks a b same, same-shape a b same limit, same .header, same .prev-length) refl
+
+-- slot and side: the slots at which rule 11 fails are the same, and at the first of them prev is read alike, since that is a link
+module _ (a b : Arena) (same : SameRead a b) where
+  same-broken-slots : brokenSlots (a .prev) (a .next) (a .generation) (stackLength a) ≡ brokenSlots (b .prev) (b .next) (b .generation) (stackLength b)
+  unfolding brokenSlots
+  same-broken-slots =
+      keep-agree _ _ (slotsFrom 1 (stackLength a)) (λ s i. ap not (same-fine (a .generation) (b .generation) (stackLength a) (same .generation) (a .next) (b .next) (same .next) (a .prev) (b .prev) (same .prev) s))
+      ∙ ap (λ (h : List ℕ). keep (λ x. not (neighboursFine (b .prev) (b .next) (b .generation) (getD h 0 0) x)) (slotsFrom 1 (getD h 0 0))) (same .header)
+
+  same-side : (x : ℕ) → isLink a x ≡ true → sideAt (a .prev) (a .next) (a .generation) (stackLength a) x ≡ sideAt (b .prev) (b .next) (b .generation) (stackLength b) x
+  unfolding sideAt
+  same-side x link =
+      rw (same .prev x link, same-names-back (a .generation) (b .generation) (stackLength a) (same .generation) (a .next) (b .next) (same .next) (a .prev) (b .prev) (same .prev) (a .next) (b .next) x (at (b .prev) x) (λ t f. same .next t (allocated-within (a .generation) (stackLength a) t f)))
+      (ap (λ (h : List ℕ). cond (namesBack (b .next) (b .generation) (getD h 0 0) x (at (b .prev) x)) 2 1) (same .header))
+
+  pub broken-reads-only : (limit : ℕ) → (brokenSlot limit a ≡ brokenSlot limit b) × (brokenSide limit a ≡ brokenSide limit b)
+  broken-reads-only limit = elim (ℕ-discrete (verdict limit a) 11) [
+    | yes e ↦ (
+      slot-with-eleven limit a e ∙ ap (firstOr 0) same-broken-slots ∙ sym (slot-with-eleven limit b (there e)),
+      side-with-eleven limit a e ∙ same-side (lowestBroken limit a) (link e) ∙ ap (λ (s : ℕ). sideAt (b .prev) (b .next) (b .generation) (stackLength b) s) (ap (firstOr 0) same-broken-slots) ∙ sym (side-with-eleven limit b (there e)),
+    )
+    | no d ↦ (slot-without limit a d ∙ sym (slot-without limit b (λ e. d (here e))), side-without limit a d ∙ sym (side-without limit b (λ e. d (here e))))
+  ]
+    where
+      there : verdict limit a ≡ 11 → verdict limit b ≡ 11
+      there e = sym (verdict-reads-only limit a b same) ∙ e
+
+      here : verdict limit b ≡ 11 → verdict limit a ≡ 11
+      here e = verdict-reads-only limit a b same ∙ e
+
+      link : verdict limit a ≡ 11 → isLink a (lowestBroken limit a) ≡ true
+      link e = fails-at-links limit a _ (first-lowest _ _ _ _ (eleven-broken limit a e) .fails)
 
 -- so a payload column of the same length may hold any words
 pub payloads-are-not-read : (limit : ℕ) (ps ns gs vs ws h : List ℕ) → length vs ≡ length ws → verdict limit (arena ps ns gs vs h) ≡ verdict limit (arena ps ns gs ws h)

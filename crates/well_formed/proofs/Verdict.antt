@@ -44,11 +44,11 @@ some-failure ps ns gs n (suc k) e = by-test (neighboursFine ps ns gs n (suc k)) 
 
 module _ (limit : ℕ) (a : Arena) where
   -- 11 is never answered where no slot fails
+  pub eleven-broken : verdict limit a ≡ 11 → interlinksFine a ≡ false
+  eleven-broken e = by-test (interlinksFine a) (λ fine. absurd (omega (arith, fine-at-most-10 limit a fine))) (λ broken. broken)
+
   pub eleven-fails : verdict limit a ≡ 11 → (s : ℕ) × FailsAt a s
-  eleven-fails e = some-failure (a .prev) (a .next) (a .generation) (stackLength a) (stackLength a) broken
-    where
-      broken : interlinksFine a ≡ false
-      broken = by-test (interlinksFine a) (λ fine. absurd (omega (arith, fine-at-most-10 limit a fine))) (λ broken. broken)
+  eleven-fails e = some-failure (a .prev) (a .next) (a .generation) (stackLength a) (stackLength a) (eleven-broken e)
 
   -- rule 11 fails at links only
   pub fails-at-links : (s : ℕ) → FailsAt a s → isLink a s ≡ true

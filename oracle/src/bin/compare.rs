@@ -58,6 +58,11 @@ fn main() -> ExitCode {
         }
     }
     row("all", &all, began, "");
+    let [prev, next] = all.sides.map(grouped);
+    let (broken, confirmed) = (grouped(all.numbers[11]), grouped(all.places_with_crate));
+    println!(
+        "{broken} cases with 11, at a prev {prev} and at a next {next}; slot and side by the crate too: {confirmed}"
+    );
     ExitCode::SUCCESS
 }
 
@@ -111,10 +116,16 @@ fn complete(section: &Section, counts: Counts) -> Result<Counts, String> {
     if crate_text_found() && counts.with_crate == 0 {
         return Err("the crate was not asked".to_string());
     }
-    match section.numbers.iter().find(|&&number| counts.numbers[number] < 100) {
-        Some(number) => Err(format!("{number} was hardly tried: {counts}")),
-        None => Ok(counts),
+    if let Some(number) = section.numbers.iter().find(|&&number| counts.numbers[number] < 100) {
+        return Err(format!("{number} was hardly tried: {counts}"));
     }
+    if section.numbers.contains(&11) && counts.sides.iter().any(|&cases| cases < 100) {
+        return Err("11 was hardly tried on both sides".to_string());
+    }
+    if crate_text_found() && section.numbers.contains(&11) && counts.places_with_crate < 100 {
+        return Err("the crate was hardly asked for the place that 11 names".to_string());
+    }
+    Ok(counts)
 }
 
 /// Prints the line of a section.

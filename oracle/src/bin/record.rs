@@ -2,16 +2,17 @@
 //! program's calls go to its file `stdin`, the answers to its file `stdout`.
 //!
 //! `cargo run --release -p oracle --bin record`, where the crate's files are at hand (GLUE.md). The answers are those of the
-//! crate's own text; for a damaged arena its `_check_invariants` gives the number, and REFERENCE, Replies the rest: nothing
-//! is written, and the further fields are 0, but for a step's, which are its state as it got it. Where the crate has no
-//! answer (1, 6, 14, 15 and 16, and what else its types cannot hold) the model's is taken. No exported call has a part in
-//! it.
+//! crate's own text; for a damaged arena its `_check_invariants` gives the number, with 11 the model the slot and the side,
+//! and REFERENCE, Replies the rest: nothing is written, and the further fields are 0, but for a step's, which are its state as
+//! it got it. Where the crate has no answer (1, 6, 14, 15 and 16, and what else its types cannot hold) the model's is taken.
+//! No exported call has a part in it.
 //!
 //! The cases come from fixed seeds: all arenas of up to five slots that pass the check, random ones of a few slots,
 //! generations around the largest, noise in words that are not read, and damaged arenas. Of each call and each number that
-//! it answers some are kept, and some more of each mark that a case can have, as the kind of an insertion.
+//! it answers some are kept, and some more of each mark that a case can have, as the kind of an insertion or the side on
+//! which a link is broken.
 
-use std::collections::BTreeMap;
+use std::collections::{BTreeMap, BTreeSet};
 use std::fs;
 use std::path::{Path, PathBuf};
 
@@ -20,7 +21,7 @@ use oracle::compare::{Outcome, crate_number, crate_outcome, crate_text_found, mo
 use oracle::header::GENERATION;
 use oracle::random::{self, Random};
 use oracle::words::CALLS_IN_ALL;
-use oracle::{Arena, COMMAND_WORDS, Call, Reading, Reply, cases, kind, model};
+use oracle::{Arena, COMMAND_WORDS, Call, Reading, Reply, cases, kind, model, side};
 
 /// The programs, each with the codes of its calls.
 const PROGRAMS: [(&str, &[usize]); 6] = [
@@ -141,6 +142,15 @@ enum Mark {
     ByCrate,
     /// The answer is the model's
     ByModel,
+    /// 11 names this side
+    Side(u32),
+    /// Both sides of the slot that 11 names are broken
+    BothSides,
+    /// 11 names a slot above the first
+    HigherSlot,
+    /// One slot is broken, or more
+    OneBroken,
+    MoreBroken,
     /// The two pointers are one
     SamePointers,
     /// The pointer's slot is 0
@@ -199,7 +209,8 @@ impl Mark {
     }
 }
 
-/// The marks of a case, by what it leaves; of a call that the check refuses only whose answer it is.
+/// The marks of a case, by what it leaves; of a call that the check refuses only whose answer it is, and with 11 where the
+/// arena is broken.
 fn marks(before: &Arena, after: &Outcome, by_crate: bool) -> Vec<Mark> {
     let mut marks = vec![if by_crate { Mark::ByCrate } else { Mark::ByModel }];
     if !(1..=11).contains(&after.reply.number) {
@@ -222,6 +233,21 @@ fn marks(before: &Arena, after: &Outcome, by_crate: bool) -> Vec<Mark> {
         mark(stack < before.capacity(), Mark::Room);
         marks.extend(marks_of_kind(before, after));
     }
+    if after.reply.number == 11 {
+        marks.extend(marks_of_broken(before, &after.reply));
+    }
+    marks
+}
+
+/// The marks of a reply with 11.
+fn marks_of_broken(before: &Arena, reply: &Reply) -> Vec<Mark> {
+    let places: Vec<(u32, u32)> = model::broken_places(before).collect();
+    let slots: BTreeSet<u32> = places.iter().map(|&(slot, _)| slot).collect();
+    let both = [side::PREV, side::NEXT].iter().all(|&side| places.contains(&(reply.broken, side)));
+    let mut marks = vec![Mark::Side(reply.side)];
+    marks.extend(both.then_some(Mark::BothSides));
+    marks.extend((reply.broken > 1).then_some(Mark::HigherSlot));
+    marks.push(if slots.len() == 1 { Mark::OneBroken } else { Mark::MoreBroken });
     marks
 }
 
@@ -249,19 +275,25 @@ fn marks_of_kind(before: &Arena, after: &Outcome) -> Vec<Mark> {
 fn crate_answer(before: &Arena, call: &Call) -> Option<Outcome> {
     match crate_number(before)? {
         0 => crate_outcome(before, call),
-        number => Some(Outcome { reply: refusal(number, call), call: call.clone(), arena: before.clone() }),
+        number => {
+            let reply = refusal(before, number, call);
+            Some(Outcome { reply, call: call.clone(), arena: before.clone() })
+        }
     }
 }
 
-/// The reply for an arena that does not pass the check (REFERENCE, Replies).
-fn refusal(number: u32, call: &Call) -> Reply {
+/// The reply for an arena that does not pass the check (REFERENCE, Replies). The crate's check names no slot: with 11 slot
+/// and side are the model's.
+fn refusal(before: &Arena, number: u32, call: &Call) -> Reply {
     let reply = match call {
         Call::WalkStep(walk) => {
             Reply::new(number, &[0, 0, walk.start, walk.position, walk.direction, walk.left])
         }
         _ => Reply::number(number),
     };
-    Reply { broken: u32::from(number == 11), ..reply }
+    let place = if number == 11 { model::broken_place(before) } else { None };
+    let (broken, side) = place.unwrap_or((0, 0));
+    Reply { broken, side, ..reply }
 }
 
 /// The words of the columns and of the header.
@@ -311,10 +343,10 @@ fn case_line(before: &Arena, call: &Call) -> Option<String> {
     Some(line_of(words))
 }
 
-/// The line of an answer: the number, 1 if a slot is named and else 0, the further fields, then the lent slice, the
-/// columns and the header as they are afterwards.
+/// The line of an answer: number, broken and side, the further fields, then the lent slice, the columns and the header as
+/// they are afterwards.
 fn answer_line(after: &Outcome) -> String {
-    let mut words = vec![after.reply.number, u32::from(after.reply.broken != 0)];
+    let mut words = vec![after.reply.number, after.reply.broken, after.reply.side];
     words.extend(&after.reply.words[..after.call.fields().len()]);
     words.extend(after.call.lent());
     words.extend(columns(&after.arena));
@@ -323,7 +355,7 @@ fn answer_line(after: &Outcome) -> String {
 
 #[cfg(test)]
 mod tests {
-    use std::collections::BTreeSet;
+    use oracle::compare::crate_place;
 
     use super::*;
 
@@ -438,15 +470,36 @@ mod tests {
         }
     }
 
-    /// Each stored answer is the model's, and the crate's where its files are at hand and it has one.
+    /// Every call is refused with 11 at either side, at a slot above the first, and where one slot or more are broken.
+    #[test]
+    fn stored_broken_links_are_of_every_kind() {
+        let mut found = BTreeSet::new();
+        for (case, _) in stored() {
+            let (before, call) = case_of(&case);
+            let reply = model_outcome(&before, &call).reply;
+            if reply.number == 11 {
+                found.extend(marks_of_broken(&before, &reply).into_iter().map(|mark| (call.code(), mark)));
+            }
+        }
+        let sides = [Mark::Side(side::PREV), Mark::Side(side::NEXT), Mark::BothSides];
+        let wanted = sides.into_iter().chain([Mark::HigherSlot, Mark::OneBroken, Mark::MoreBroken]);
+        for (code, mark) in (1..=CALLS_IN_ALL).flat_map(|code| wanted.clone().map(move |mark| (code, mark))) {
+            assert!(found.contains(&(code, mark)), "call {code}");
+        }
+    }
+
+    /// Each stored answer is the model's, and the crate's where its files are at hand and it has one. With 11 the crate
+    /// confirms slot and side.
     #[test]
     fn stored_answers_stand() {
         for (case, answer) in stored() {
             let (before, call) = case_of(&case);
             assert_eq!(case_line(&before, &call).as_deref(), Some(format!("{case}\n").as_str()));
             assert_eq!(answer_line(&model_outcome(&before, &call)), format!("{answer}\n"), "{case}");
-            if let Some(after) = crate_answer(&before, &call) {
-                assert_eq!(answer_line(&after), format!("{answer}\n"), "{case}");
+            let Some(after) = crate_answer(&before, &call) else { continue };
+            assert_eq!(answer_line(&after), format!("{answer}\n"), "{case}");
+            if after.reply.number == 11 {
+                assert_eq!(crate_place(&before), Some((after.reply.broken, after.reply.side)), "{case}");
             }
         }
     }

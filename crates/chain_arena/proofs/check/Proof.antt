@@ -1,11 +1,12 @@
--- `chain_arena::check` meets its contract. Each return is an end of the verdict: 1 to 3, then 4 to 10 of an arena of that shape, then a slot at
--- which rule 11 fails, then none. Assumes nothing.
+-- `chain_arena::check` meets its contract. Each return is an end of the verdict: 1 to 3, then 4 to 10 of an arena of that shape, then the lowest slot at
+-- which rule 11 fails with its side, then none. Assumes nothing.
 use mathlib.Core.Path.{sym, _∙_}
 use native.Mathlib.Omega.{arith}
 use mir.Facts.{fits-widen}
-use borrow.Author.Tests.{eq-eqb, ne-eqb}
+use borrow.Author.Tests.{eq-eqb}
 use Rattle.definitions.specs.Arena.{Arena, arena, capacityLimit}
 use Rattle.definitions.proofs.Shaped.{Shaped}
+use Rattle.definitions.proofs.Broken.{all-fine-first, first-within}
 use Rattle.base_arena.proofs.Refusals.{shaped-if-accepted}
 use Rattle.chain_arena.proofs.Verdict.{checks-shape, checks-counts, checks-broken, checks-passed}
 use borrow.Author.Needs.{needs}
@@ -33,13 +34,26 @@ returns-2 c =
     let found : tie.After-counts = search in
     checks-counts _ _ (shape-passed (search)) (found .counts .ensures) (c .if2 .taken)
 
+-- the slot that `interlinks` found is one of the stack
+cast-slot : tie.Need-cast-slot
+cast-slot c =
+    let found : tie.After-interlinks = search in
+    omega (arith, shape-passed (search), first-within _ _ _ _ _ (found .interlinks .ensures))
+
+broken-side-requires : tie.Need-broken-side-requires
+broken-side-requires c κs =
+    let found : tie.After-interlinks = search in
+    omega (arith, shape-passed (search), first-within _ _ _ _ _ (found .interlinks .ensures))
+
 returns-3 : tie.Need-returns-3
 returns-3 c =
     let found : tie.After-interlinks = search in
+    let sided : tie.After-broken-side = search in
     let on : tie.Else2 = search in
+    let failed : tie.Then3 = search in
     let counted : tie.After-counts = search in
     let none = sym (counted .counts .ensures) ∙ on .if2 .left in
-    checks-broken _ _ (shape-passed (search)) none (found .interlinks .ensures .1 ∙ ne-eqb _ 0 (c .if3 .taken)) (found .interlinks .ensures .2 (c .if3 .taken))
+    checks-broken _ _ _ (shape-passed (search)) none (found .interlinks .ensures) (failed .if3 .taken) (sided .broken-side .ensures)
 
 returns-4 : tie.Need-returns-4
 returns-4 c =
@@ -47,7 +61,7 @@ returns-4 c =
     let on : tie.Else2 = search in
     let counted : tie.After-counts = search in
     let none = sym (counted .counts .ensures) ∙ on .if2 .left in
-    checks-passed _ (shape-passed (search)) none (found .interlinks .ensures .1 ∙ eq-eqb _ 0 (c .if3 .left))
+    checks-passed _ (shape-passed (search)) none (all-fine-first _ _ _ _ ∙ eq-eqb _ 0 (sym (found .interlinks .ensures) ∙ c .if3 .left))
 
 pub check-spec : {M : Type 1} → statement M
 check-spec =
@@ -63,6 +77,7 @@ check-spec =
     (λ c κs. omega (arith, shape-passed (search)))
     returns-2
     (λ c κs. omega (arith, shape-passed (search)))
-    (λ c. omega (arith, shape-passed (search)))
+    cast-slot
+    broken-side-requires
     returns-3
     returns-4)

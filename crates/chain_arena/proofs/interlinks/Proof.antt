@@ -1,15 +1,14 @@
 -- `chain_arena::interlinks` meets its contract. The loop's invariant: rule 11 holds at every slot below x. The measure is what is left of the n
 -- slots. Assumes nothing.
 use Prim.Native.Nat.{ℕ, _+_, _-_, _≤_, _<_}
-use mathlib.Core.Path.{_≡_, refl}
+use mathlib.Core.Path.{_≡_, sym}
 use mathlib.Core.Bool.{true}
 use native.Mathlib.Omega.{arith}
 use borrow.Author.Count.{below-more}
 use borrow.Author.Needs.{needs}
 use Rattle.definitions.specs.Check.{neighboursFine}
 use Rattle.definitions.proofs.Tests.{tests}
-use Rattle.definitions.proofs.Interlinks.{all-fine}
-use Rattle.chain_arena.proofs.Neighbours.{fails-at}
+use Rattle.definitions.proofs.Broken.{first-is, none-first}
 use Rattle.chain_arena.proofs.interlinks.Statement.{statement}
 use Rattle.chain_arena.proofs.interlinks.Tie as tie
 
@@ -23,7 +22,7 @@ abbrev μ-loop : tie.MeasureT-loop
 returns : tie.Need-returns Inv-loop μ-loop
 returns c =
     let turn : tie.At-loop Inv-loop μ-loop = search in
-    (omega arith, fails-at _ _ _ _ (turn .loop .x) (omega arith) (omega arith) (search tests), λ z. search tests)
+    sym (first-is _ _ _ _ (turn .loop .x) (record { some = omega arith; within = omega arith; fails = search tests; lower = λ y p h. turn .loop .inv .2 y h p }))
 
 loop-again : tie.Need-loop-again Inv-loop μ-loop
 loop-again c =
@@ -33,7 +32,7 @@ loop-again c =
 returns-2 : tie.Need-returns-2 Inv-loop μ-loop
 returns-2 c =
     let turn : tie.At-loop Inv-loop μ-loop = search in
-    (omega arith, all-fine _ _ _ _ _ (λ x p h. turn .loop .inv .2 x (omega arith) p), λ z. absurd (z refl))
+    sym (none-first _ _ _ _ (λ x p h. turn .loop .inv .2 x (omega arith) p))
 
 pub interlinks-spec : {M : Type 1} → statement M
 interlinks-spec =

@@ -1,4 +1,4 @@
--- The fields of `WellFormed`, `Freelist` and `Names`: for each an arena, or a slot, that it alone refuses. And `SameRead` asks for nothing of the words that
+-- The fields of `WellFormed` and `Freelist`, and `FailsAt`: for each an arena, or a slot, that it alone refuses. And `SameRead` asks for nothing of the words that
 -- the check does not read.
 use Prim.Native.Nat.{ℕ, zero, suc, _≤_}
 use mathlib.Core.Path.{_≡_, refl, sym, ap, _∙_}
@@ -6,8 +6,8 @@ use mathlib.Core.Bool.{Bool, true, false, true≢false}
 use mathlib.Core.List.{List, [], _∷_}
 use native.Mathlib.Omega.{arith}
 use Rattle.definitions.specs.Columns.{at, count, firstOr, lastOr, slotsFrom, keep, Linked}
-use Rattle.definitions.specs.Arena.{Arena, arena, allocated, linkSlots, freeSlots}
-use Rattle.definitions.specs.Check.{Freelist, WellFormed, Names, SameRead, misshapen, freelistWalk, namesBack, neighboursFine, allFine, countsOf, verdict}
+use Rattle.definitions.specs.Arena.{Arena, arena, allocated, linkSlots}
+use Rattle.definitions.specs.Check.{FailsAt, Freelist, WellFormed, SameRead, namesBack, neighboursFine}
 use Rattle.definitions.proofs.Slots.{count-nil, count-there, allocated-within}
 use Rattle.definitions.proofs.Count.{count-first, in-here}
 
@@ -111,24 +111,12 @@ pub freelist-once-refused : Freelist (oneFree 0) [] → ⊥
 unfolding at
 freelist-once-refused f = omega (arith, f .once 2 (omega arith) (omega arith) refl, count-nil 2)
 
--- ---- Names
+-- ---- FailsAt
 
--- slot 1 names slot 2 as its next, which names nobody: rule 11 fails at slot 1 and not at slot 2
-abbrev broken : Arena
-broken = oneSided (0 ∷ 0 ∷ []) (2 ∷ 0 ∷ [])
-
-pub names-one-refused : Names 2 broken 2 → ⊥
-unfolding at slotsFrom keep allocated linkSlots freeSlots misshapen freelistWalk namesBack neighboursFine allFine countsOf verdict
-names-one-refused n = true≢false (n .one refl)
-
--- a slot is named although the arena passes the check, or another rule refuses it
-pub names-none-refused : Names 2 (oneSided (0 ∷ 0 ∷ []) (0 ∷ 0 ∷ [])) 1 → ⊥
-unfolding at slotsFrom keep allocated linkSlots freeSlots misshapen freelistWalk namesBack neighboursFine allFine countsOf verdict
-names-none-refused n = omega (arith, n .none (λ e. omega (arith, e)))
-
-pub names-none-with-2-refused : Names 2 (arena [] [] [] [] (0 ∷ 0 ∷ 0 ∷ 1 ∷ [])) 1 → ⊥
-unfolding at slotsFrom keep allocated linkSlots freeSlots misshapen freelistWalk namesBack neighboursFine allFine countsOf verdict
-names-none-with-2-refused n = omega (arith, n .none (λ e. omega (arith, e)))
+-- a link whose next is none, or names it back
+pub fails-at-refused : FailsAt (oneSided (0 ∷ 1 ∷ []) (2 ∷ 0 ∷ [])) 2 → ⊥
+unfolding at allocated namesBack neighboursFine
+fails-at-refused f = true≢false f
 
 -- ---- SameRead, which is assumed where the verdict is said to depend on nothing else
 

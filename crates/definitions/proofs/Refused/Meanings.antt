@@ -8,12 +8,12 @@ use mathlib.Core.List.{List, [], _∷_, _++_, map}
 use lib.ListN.{length, getD, set, drop, replicate}
 use native.Mathlib.Omega.{arith}
 use lib.Dec.{eqb, leb, ltb}
-use borrow.Author.Tests.{ne-eqb}
+use borrow.Author.Tests.{eq-eqb, ne-eqb}
 use denote.Ref.{now}
 use denote.Triple.Both.{Both}
 use Rattle.definitions.specs.Columns.{at, put, count, firstOr, lastOr, Linked, slotsFrom, keep, written, settled}
 use Rattle.definitions.specs.Arena.{Arena, arena, capacity, capacityLimit, largestGeneration, stackLength, linkCount, root, current, allocated, linkSlots, freeSlots, isLink}
-use Rattle.definitions.specs.Check.{FailsAt, namesBack, neighboursFine}
+use Rattle.definitions.specs.Check.{FailsAt, Neighbour, namesBack, neighboursFine, verdict, brokenSlots, sideAt, brokenSlot, brokenSide}
 use Rattle.definitions.specs.Reply.{reply}
 use Rattle.definitions.specs.Walk.{Walk, startAt, stateOf, step, walked, walkFrom}
 use Rattle.definitions.specs.Read.{Pointer, pointer, stale}
@@ -50,7 +50,7 @@ use Rattle.definitions.specs.Remove.{remove}
 use Rattle.definitions.specs.Run.{Command, commandAt, commandsOf, apply}
 use Rattle.definitions.specs.Compress.{place, relocate}
 use Rattle.definitions.specs.Report.{itemSlots}
-use Rattle.definitions.specs.Calls.{Connect, BreakPrev, BreakNext, ExchangeNext, Remove, Insert, Made, replyTo, callOf, repliesTo, arenaAfter}
+use Rattle.definitions.specs.Calls.{Call, Connect, BreakPrev, BreakNext, ExchangeNext, Remove, Insert, Made, accepted, replyTo, callOf, repliesTo, arenaAfter}
 use Rattle.definitions.specs.Lent.{Column, atEntry, atExit}
 use Rattle.definitions.proofs.Codes.{no-kind}
 
@@ -127,8 +127,14 @@ capacity-limit-whole = refl
 pub largest-generation-whole : largestGeneration ≡ 4294967295
 largest-generation-whole = refl
 
-pub reply-whole : (k : ℕ) (fs : List ℕ) (a : Arena) (l : List ℕ) → (reply k fs a l .number ≡ k) × (reply k fs a l .fields ≡ fs) × (reply k fs a l .arena ≡ a) × (reply k fs a l .back ≡ l)
-reply-whole k fs a l = (refl, refl, refl, refl)
+pub reply-whole : (k : ℕ) (fs : List ℕ) (a : Arena) (l : List ℕ) →
+    (reply k fs a l .number ≡ k)
+    × (reply k fs a l .broken ≡ 0)
+    × (reply k fs a l .side ≡ 0)
+    × (reply k fs a l .fields ≡ fs)
+    × (reply k fs a l .arena ≡ a)
+    × (reply k fs a l .back ≡ l)
+reply-whole k fs a l = (refl, refl, refl, refl, refl, refl)
 
 -- ---- links and rule 11
 
@@ -150,6 +156,22 @@ pub fails-at-whole : (a : Arena) (s : ℕ) →
     ↔ ((not (leb s (getD (a .header) 0 0) && not (eqb (at (a .generation) s) 0)) || (fits a (a .next) s (at (a .prev) s) && fits a (a .prev) s (at (a .next) s))) ≡ false)
 unfolding allocated namesBack neighboursFine
 fails-at-whole a s = (λ h. h, λ h. h)
+
+-- the slot and the side that go with 11, in full: the first of the slots 1 to the stack length at which the rule fails; 2 if its prev fits, else 1
+abbrev fails : Arena → ℕ → Bool
+fails a s = not (not (leb s (getD (a .header) 0 0) && not (eqb (at (a .generation) s) 0)) || (fits a (a .next) s (at (a .prev) s) && fits a (a .prev) s (at (a .next) s)))
+
+pub broken-slot-whole : (limit : ℕ) (a : Arena) → brokenSlot limit a ≡ cond (eqb (verdict limit a) 11) (firstOr 0 (keep (fails a) (slotsFrom 1 (getD (a .header) 0 0)))) 0
+unfolding allocated namesBack neighboursFine brokenSlots brokenSlot
+broken-slot-whole limit a = refl
+
+pub broken-side-whole : (limit : ℕ) (a : Arena) →
+    brokenSide limit a ≡ cond (eqb (verdict limit a) 11) (cond (fits a (a .next) (brokenSlot limit a) (at (a .prev) (brokenSlot limit a))) 2 1) 0
+unfolding allocated namesBack sideAt brokenSide
+broken-side-whole limit a = refl
+
+pub neighbour-whole : (a : Arena) (back : List ℕ) (x s : ℕ) → Neighbour a back x s ↔ ((s ≡ 0 → ⊥) → (isLink a s ≡ true) × (at back s ≡ x))
+neighbour-whole a back x s = (λ h. h, λ h. h)
 
 pub stale-whole : (a : Arena) (p : Pointer) →
     stale a p
@@ -302,6 +324,20 @@ pub walked-whole : (a : Arena) (steps : ℕ) (w : Walk) →
     (walked a 0 w ≡ []) × (walked a (suc steps) w ≡ cond (eqb (step a w .answer .slot) 0) [] (step a w .answer .slot ∷ walked a steps (step a w .state)))
 unfolding walked
 walked-whole a steps w = (refl, refl)
+
+-- the reply of a call is its own where the check passes, and else the check's
+module _ (limit top : ℕ) (c : Call) (a : Arena) (l : List ℕ) where
+  pub reply-to-whole : (verdict limit a ≡ 0 → replyTo limit top c a l ≡ accepted top c a l)
+      × ((verdict limit a ≡ 0 → ⊥) → replyTo limit top c a l ≡ record {
+        number = verdict limit a;
+        broken = brokenSlot limit a;
+        side = brokenSide limit a;
+        fields = replicate (length (accepted top c a l .fields)) 0;
+        arena = a;
+        back = l;
+      })
+  unfolding replyTo
+  reply-to-whole = (λ e. rw (eq-eqb (verdict limit a) 0 e) refl, λ d. rw (ne-eqb (verdict limit a) 0 d) refl)
 
 module _ (limit top : ℕ) (m : Made) (ms : List Made) (a : Arena) where
   pub replies-to-whole : (repliesTo limit top [] a ≡ [])

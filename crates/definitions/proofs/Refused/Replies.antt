@@ -1,16 +1,16 @@
--- What every call promises, `Answers`: each part of a reply has a wrong reply that it alone refuses. And the slots of a drain's report, computed.
+-- What every call promises, the reply `replyTo`: each part of it has a wrong reply that this part alone refuses. And the slots of a drain's report, computed.
 use Prim.Native.Nat.{ℕ}
 use mathlib.Core.Path.{_≡_, refl, ap}
 use mathlib.Core.List.{List, [], _∷_}
 use native.Mathlib.Omega.{arith}
 use lib.ListN.{getD}
-use Rattle.definitions.specs.Columns.{at, slotsFrom, keep}
+use Rattle.definitions.specs.Columns.{at, firstOr, slotsFrom, keep}
 use Rattle.definitions.specs.Arena.{Arena, arena, allocated, linkSlots, freeSlots}
-use Rattle.definitions.specs.Check.{misshapen, freelistWalk, namesBack, neighboursFine, allFine, countsOf, verdict}
+use Rattle.definitions.specs.Check.{misshapen, freelistWalk, namesBack, neighboursFine, allFine, countsOf, verdict, brokenSlots, sideAt, brokenSlot, brokenSide}
 use Rattle.definitions.specs.Reply.{Reply, reply}
 use Rattle.definitions.specs.Walk.{onward, step, walkStep}
 use Rattle.definitions.specs.Report.{itemSlots}
-use Rattle.definitions.specs.Calls.{Check, WalkStep, accepted, replyTo, Answers}
+use Rattle.definitions.specs.Calls.{Check, WalkStep, accepted, replyTo}
 
 -- a lone link, and a link closed alone
 abbrev lone : Arena
@@ -19,29 +19,49 @@ lone = arena (0 ∷ []) (0 ∷ []) (5 ∷ []) (7 ∷ []) (1 ∷ 1 ∷ 0 ∷ 5 �
 abbrev ring : Arena
 ring = arena (1 ∷ []) (1 ∷ []) (5 ∷ []) (7 ∷ []) (1 ∷ 1 ∷ 0 ∷ 5 ∷ [])
 
+-- two links, each with a next above the stack
+abbrev twoBroken : Arena
+twoBroken = arena (0 ∷ 0 ∷ []) (9 ∷ 9 ∷ []) (5 ∷ 5 ∷ []) (7 ∷ 8 ∷ []) (2 ∷ 2 ∷ 0 ∷ 5 ∷ [])
+
 -- ---- a reply to the check, or to a step, with one part wrong; the limits are 5 slots and generation 9
 
-pub answers-same-number-refused : Answers 5 9 Check lone [] 0 (reply 1 [] lone []) → ⊥
+pub reply-to-number-refused : reply 1 [] lone [] ≡ replyTo 5 9 Check lone [] → ⊥
 unfolding at slotsFrom keep allocated linkSlots freeSlots misshapen freelistWalk namesBack neighboursFine allFine countsOf verdict accepted replyTo
-answers-same-number-refused r = omega (arith, ap (λ (s : Reply). s .number) (r .same))
+reply-to-number-refused e = omega (arith, ap (λ (s : Reply). s .number) e)
 
 -- a step that answers a link although no advance is left
-pub answers-same-fields-refused : Answers 5 9 WalkStep lone (1 ∷ 1 ∷ 0 ∷ 0 ∷ []) 0 (reply 0 (1 ∷ 5 ∷ []) lone (1 ∷ 1 ∷ 0 ∷ 0 ∷ [])) → ⊥
+pub reply-to-fields-refused : reply 0 (1 ∷ 5 ∷ []) lone (1 ∷ 1 ∷ 0 ∷ 0 ∷ []) ≡ replyTo 5 9 WalkStep lone (1 ∷ 1 ∷ 0 ∷ 0 ∷ []) → ⊥
 unfolding at slotsFrom keep allocated linkSlots freeSlots misshapen freelistWalk namesBack neighboursFine allFine countsOf verdict onward step walkStep accepted replyTo
-answers-same-fields-refused r = omega (arith, ap (λ (s : Reply). getD (s .fields) 0 0) (r .same))
+reply-to-fields-refused e = omega (arith, ap (λ (s : Reply). getD (s .fields) 0 0) e)
 
-pub answers-same-arena-refused : Answers 5 9 Check lone [] 0 (reply 0 [] ring []) → ⊥
+pub reply-to-arena-refused : reply 0 [] ring [] ≡ replyTo 5 9 Check lone [] → ⊥
 unfolding at slotsFrom keep allocated linkSlots freeSlots misshapen freelistWalk namesBack neighboursFine allFine countsOf verdict accepted replyTo
-answers-same-arena-refused r = omega (arith, ap (λ (s : Reply). getD (s .arena .next) 0 0) (r .same))
+reply-to-arena-refused e = omega (arith, ap (λ (s : Reply). getD (s .arena .next) 0 0) e)
 
-pub answers-same-back-refused : Answers 5 9 Check lone (3 ∷ []) 0 (reply 0 [] lone (4 ∷ [])) → ⊥
+pub reply-to-back-refused : reply 0 [] lone (4 ∷ []) ≡ replyTo 5 9 Check lone (3 ∷ []) → ⊥
 unfolding at slotsFrom keep allocated linkSlots freeSlots misshapen freelistWalk namesBack neighboursFine allFine countsOf verdict accepted replyTo
-answers-same-back-refused r = omega (arith, ap (λ (s : Reply). getD (s .back) 0 0) (r .same))
+reply-to-back-refused e = omega (arith, ap (λ (s : Reply). getD (s .back) 0 0) e)
 
--- a slot is named although nothing is refused
-pub answers-names-refused : Answers 5 9 Check lone [] 1 (reply 0 [] lone []) → ⊥
-unfolding at slotsFrom keep allocated linkSlots freeSlots misshapen freelistWalk namesBack neighboursFine allFine countsOf verdict
-answers-names-refused r = omega (arith, r .names .none (λ e. omega (arith, e)))
+-- a slot or a side is named although nothing is refused
+abbrev naming : ℕ → ℕ → ℕ → Arena → Reply
+naming number broken side a = record { number = number; broken = broken; side = side; fields = []; arena = a; back = [] }
+
+pub reply-to-broken-refused : naming 0 1 0 lone ≡ replyTo 5 9 Check lone [] → ⊥
+unfolding at slotsFrom keep allocated linkSlots freeSlots misshapen freelistWalk namesBack neighboursFine allFine countsOf verdict accepted replyTo
+reply-to-broken-refused e = omega (arith, ap (λ (s : Reply). s .broken) e)
+
+pub reply-to-side-refused : naming 0 0 2 lone ≡ replyTo 5 9 Check lone [] → ⊥
+unfolding at slotsFrom keep allocated linkSlots freeSlots misshapen freelistWalk namesBack neighboursFine allFine countsOf verdict accepted replyTo
+reply-to-side-refused e = omega (arith, ap (λ (s : Reply). s .side) e)
+
+-- with 11, any slot but the lowest, and any side but its own
+pub reply-to-another-slot-refused : (s : ℕ) → (s ≡ 1 → ⊥) → naming 11 s 2 twoBroken ≡ replyTo 5 9 Check twoBroken [] → ⊥
+unfolding at firstOr slotsFrom keep allocated linkSlots freeSlots misshapen freelistWalk namesBack neighboursFine allFine countsOf verdict brokenSlots sideAt brokenSlot brokenSide accepted replyTo
+reply-to-another-slot-refused s d e = d (ap (λ (r : Reply). r .broken) e)
+
+pub reply-to-another-side-refused : (d : ℕ) → (d ≡ 2 → ⊥) → naming 11 1 d twoBroken ≡ replyTo 5 9 Check twoBroken [] → ⊥
+unfolding at firstOr slotsFrom keep allocated linkSlots freeSlots misshapen freelistWalk namesBack neighboursFine allFine countsOf verdict brokenSlots sideAt brokenSlot brokenSide accepted replyTo
+reply-to-another-side-refused d n e = n (ap (λ (r : Reply). r .side) e)
 
 -- ---- the slots of a report of two items
 

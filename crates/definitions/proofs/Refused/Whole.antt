@@ -7,9 +7,7 @@ use mathlib.Core.List.{List}
 use lib.ListN.{length}
 use Rattle.definitions.specs.Columns.{at, count, firstOr, lastOr, Linked}
 use Rattle.definitions.specs.Arena.{Arena, stackLength, linkCount, root, current, linkSlots, isLink}
-use Rattle.definitions.specs.Check.{verdict, FailsAt, Names, Freelist, WellFormed, SameRead}
-use Rattle.definitions.specs.Reply.{Reply}
-use Rattle.definitions.specs.Calls.{Call, replyTo, Answers}
+use Rattle.definitions.specs.Check.{Freelist, WellFormed, SameRead}
 
 pub freelist-whole : (a : Arena) (fs : List ℕ) → Freelist a fs →
     (firstOr 0 fs ≡ root a)
@@ -33,12 +31,6 @@ pub well-formed-whole : (limit : ℕ) (a : Arena) → WellFormed limit a →
     × ((x : ℕ) → isLink a x ≡ true → (at (a .prev) x ≡ 0 → ⊥) → (isLink a (at (a .prev) x) ≡ true) × (at (a .next) (at (a .prev) x) ≡ x))
     × ((x : ℕ) → isLink a x ≡ true → (at (a .next) x ≡ 0 → ⊥) → (isLink a (at (a .next) x) ≡ true) × (at (a .prev) (at (a .next) x) ≡ x))
 well-formed-whole limit a w = (w .header, w .small, w .next-length, w .generation-length, w .payload-length, w .generation, w .within, w .links, w .freelist, w .prev, w .next)
-
-pub names-whole : (limit : ℕ) (a : Arena) (broken : ℕ) → Names limit a broken → (verdict limit a ≡ 11 → FailsAt a broken) × ((verdict limit a ≡ 11 → ⊥) → broken ≡ 0)
-names-whole limit a broken n = (n .one, n .none)
-
-pub answers-whole : (limit top : ℕ) (c : Call) (a : Arena) (l : List ℕ) (broken : ℕ) (r : Reply) → Answers limit top c a l broken r → (r ≡ replyTo limit top c a l) × Names limit a broken
-answers-whole limit top c a l broken r p = (p .same, p .names)
 
 -- what is assumed of two arenas is no more than this
 pub same-read-whole : (a b : Arena) →

@@ -1,8 +1,8 @@
 -- `level_two_drain::chain_arena_drain` meets its contract. An arena that the check refuses is as it was; one that passes is well formed, and `chain_drain::drain` says the rest. Assumes nothing.
-use mathlib.Core.Path.{refl, _∙_}
+use mathlib.Core.Path.{_∙_}
 use borrow.Author.Needs.{needs}
 use Rattle.definitions.specs.Calls.{accepted}
-use Rattle.answers.proofs.Exports.{answers-passed, answers-refused, whole}
+use Rattle.answers.proofs.Exports.{answers-told, answers-refused, whole}
 use Rattle.level_two_drain.proofs.chain_arena_drain.Statement.{statement}
 use Rattle.level_two_drain.proofs.chain_arena_drain.Tie as tie
 
@@ -23,8 +23,7 @@ returns-2 c =
     let done : tie.After-drain = search in
     let on : tie.Else1 = search in
     let found : tie.After-checked = search in
-    let told = c .drain-result .ensures in
-    answers-passed (found .checked .ensures) (on .if1 .left) (refl, told .0) _ _ _ _ _ (told .1 _ _ ∙ done .drain .ensures)
+    answers-told (found .checked .ensures) (on .if1 .left) _ _ _ _ _ (c .drain-result .ensures _ _ ∙ done .drain .ensures)
 
 pub chain-arena-drain-spec : {M : Type 1} → statement M
 chain-arena-drain-spec =

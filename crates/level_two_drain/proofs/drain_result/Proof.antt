@@ -7,17 +7,17 @@ use Rattle.level_two_drain.proofs.drain_result.Tie as tie
 returns : tie.Need-returns
 returns c =
     let items : tie.After-d = search in
-    (c .of .ensures .1, λ a l. rw (c .of .ensures .0, items .d .given .1) refl)
+    λ a l. rw (c .of .ensures .0, c .of .ensures .1, c .of .ensures .2, items .d .given .1) refl
 
 returns-2 : tie.Need-returns-2
 returns-2 c =
     let stale : tie.After-enum-told = search in
-    (c .of2 .ensures .1, λ a l. rw (c .of2 .ensures .0, stale .enum-told .given .1) refl)
+    λ a l. rw (c .of2 .ensures .0, c .of2 .ensures .1, c .of2 .ensures .2, stale .enum-told .given .1) refl
 
 returns-3 : tie.Need-returns-3
 returns-3 c =
     let short : tie.After-enum-told2 = search in
-    (c .of3 .ensures .1, λ a l. rw (c .of3 .ensures .0, short .enum-told2 .given .1) refl)
+    λ a l. rw (c .of3 .ensures .0, c .of3 .ensures .1, c .of3 .ensures .2, short .enum-told2 .given .1) refl
 
 pub drain-result-spec : {M : Type 1} → statement M
 drain-result-spec =

@@ -24,7 +24,7 @@ returns-2 c =
     let done : tie.After-inc-generation = search in
     let on : tie.Else1 = search in
     let found : tie.After-checked = search in
-    answers-passed (found .checked .ensures) (on .if1 .left) (c .of .ensures .0 ∙ told .number .ensures, c .of .ensures .1) _ _ _ _ _ (done .inc-generation .ensures _ _ _ _)
+    answers-passed (found .checked .ensures) (on .if1 .left) (c .of .ensures .0 ∙ told .number .ensures, c .of .ensures .1, c .of .ensures .2) _ _ _ _ _ (done .inc-generation .ensures _ _ _ _)
 
 pub chain-arena-inc-generation-spec : {M : Type 1} → statement M
 chain-arena-inc-generation-spec =

@@ -9,25 +9,25 @@ returns c =
     let arm : tie.After-inserted = search in
     let of : tie.After-of = search in
     let told : tie.After-number = search in
-    (of .of .ensures .1, λ a l. rw (of .of .ensures .0, told .number .ensures a l, arm .inserted .given .1) refl)
+    λ a l. rw (of .of .ensures .0, of .of .ensures .1, of .of .ensures .2, told .number .ensures a l, arm .inserted .given .1) refl
 
 returns-2 : tie.Need-returns-2
 returns-2 c =
     let of : tie.After-of = search in
     let told : tie.After-number = search in
-    (of .of .ensures .1, λ a l. rw (of .of .ensures .0, told .number .ensures a l, c .enum-told .given .1) refl)
+    λ a l. rw (of .of .ensures .0, of .of .ensures .1, of .of .ensures .2, told .number .ensures a l, c .enum-told .given .1) refl
 
 returns-3 : tie.Need-returns-3
 returns-3 c =
     let of : tie.After-of = search in
     let told : tie.After-number = search in
-    (of .of .ensures .1, λ a l. rw (of .of .ensures .0, told .number .ensures a l, c .enum-told2 .given .1) refl)
+    λ a l. rw (of .of .ensures .0, of .of .ensures .1, of .of .ensures .2, told .number .ensures a l, c .enum-told2 .given .1) refl
 
 returns-4 : tie.Need-returns-4
 returns-4 c =
     let of : tie.After-of = search in
     let told : tie.After-number = search in
-    (of .of .ensures .1, λ a l. rw (of .of .ensures .0, told .number .ensures a l, c .enum-told3 .given .1) refl)
+    λ a l. rw (of .of .ensures .0, of .of .ensures .1, of .of .ensures .2, told .number .ensures a l, c .enum-told3 .given .1) refl
 
 pub insert-result-spec : {M : Type 1} → statement M
 insert-result-spec =

@@ -9,20 +9,20 @@ returns c =
     let link : tie.After-removed = search in
     let of : tie.After-of = search in
     let told : tie.After-number = search in
-    (of .of .ensures .1, λ a l. rw (of .of .ensures .0, told .number .ensures a l, link .removed .given .1) refl)
+    λ a l. rw (of .of .ensures .0, of .of .ensures .1, of .of .ensures .2, told .number .ensures a l, link .removed .given .1) refl
 
 returns-2 : tie.Need-returns-2
 returns-2 c =
     let link : tie.After-removed2 = search in
     let of : tie.After-of = search in
     let told : tie.After-number = search in
-    (of .of .ensures .1, λ a l. rw (of .of .ensures .0, told .number .ensures a l, link .removed2 .given .1) refl)
+    λ a l. rw (of .of .ensures .0, of .of .ensures .1, of .of .ensures .2, told .number .ensures a l, link .removed2 .given .1) refl
 
 returns-3 : tie.Need-returns-3
 returns-3 c =
     let of : tie.After-of = search in
     let told : tie.After-number = search in
-    (of .of .ensures .1, λ a l. rw (of .of .ensures .0, told .number .ensures a l, c .enum-told .given .1) refl)
+    λ a l. rw (of .of .ensures .0, of .of .ensures .1, of .of .ensures .2, told .number .ensures a l, c .enum-told .given .1) refl
 
 pub remove-result-spec : {M : Type 1} → statement M
 remove-result-spec =

@@ -7,7 +7,7 @@ use mathlib.Core.Bool.{true, cond}
 use mathlib.Core.List.{List, [], _∷_, _++_, map}
 use lib.ListN.{take}
 use lib.Dec.{eqb}
-use Rattle.definitions.specs.Columns.{count, firstOr, lastOr, slotsFrom}
+use Rattle.definitions.specs.Columns.{at, count, firstOr, lastOr, slotsFrom}
 use Rattle.definitions.specs.Arena.{Arena, current, isLink}
 use Rattle.definitions.specs.Edit.{overflows}
 use Rattle.definitions.specs.Remove.{removedAll}
@@ -18,6 +18,7 @@ use Rattle.definitions.specs.Calls.{CompressCanonical, replyTo}
 use Rattle.statements.specs.Chains.{Kind, opened, closed, Some, OfLinks, IsOpen, IsClosed, Chain, IsChain, Rotation, Like, Alike, nth, extended, cut, marked, pieces, replaced}
 use Rattle.statements.specs.Demand3.{Accepted, Every, Further, made, compress}
 use Rattle.statements.specs.Answers.{answers}
+use Rattle.statements.specs.BrokenSlot.{PrevFine, NextFine}
 use Rattle.statements.specs.DrainsChain.{overflowsAt}
 use Rattle.statements.specs.InsertPlaces.{chain, following, Makes, AllThere, Apart}
 
@@ -148,3 +149,11 @@ pub apart-whole : (p q : Named) (c : Chain) →
     × Same (Apart (Bridge p q) c) ((count (slotOf p) (c .members) ≡ 0) × (count (slotOf q) (c .members) ≡ 0))
 unfolding Apart
 apart-whole p q c = (itself, itself, itself, itself, itself, itself, itself, itself)
+
+-- ---- rule 11 at a slot, on either side
+
+pub prev-fine-whole : (a : Arena) (x : ℕ) → Same (PrevFine a x) ((at (a .prev) x ≡ 0 → ⊥) → (isLink a (at (a .prev) x) ≡ true) × (at (a .next) (at (a .prev) x) ≡ x))
+prev-fine-whole a x = itself
+
+pub next-fine-whole : (a : Arena) (x : ℕ) → Same (NextFine a x) ((at (a .next) x ≡ 0 → ⊥) → (isLink a (at (a .next) x) ≡ true) × (at (a .prev) (at (a .next) x) ≡ x))
+next-fine-whole a x = itself

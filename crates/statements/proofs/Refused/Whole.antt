@@ -20,6 +20,7 @@ use Rattle.statements.specs.WalkOrder.{WalkOrder, Walks}
 use Rattle.definitions.specs.Report.{itemSlots}
 use Rattle.statements.specs.DrainsChain.{Untouched, overflowsAt, DrainsChain}
 use Rattle.statements.specs.InsertPlaces.{Makes, Apart, InsertPlaces}
+use Rattle.statements.specs.BrokenSlot.{LowestBroken, NamesLowest}
 use Rattle.statements.specs.EveryCall.{Unchanged, AnswerWord, OneCommand}
 
 -- ---- chains
@@ -201,3 +202,28 @@ pub insert-places-whole : (a b : Arena) (kind : InsertKind) (t x : ℕ) → Inse
     × (at (b .generation) t ≡ current a)
     × (at (b .payload) t ≡ x)
 insert-places-whole a b kind t x p = (p .made, p .makes, p .stay, p .all, p .links, p .generations, p .payloads, p .fresh, p .new, p .only, p .generation, p .payload)
+
+-- ---- what goes with 11
+
+-- each neighbour of a slot is none, or a link that names the slot back
+abbrev Prev : Arena → ℕ → Type 0
+Prev a x = (at (a .prev) x ≡ 0 → ⊥) → (isLink a (at (a .prev) x) ≡ true) × (at (a .next) (at (a .prev) x) ≡ x)
+
+abbrev Next : Arena → ℕ → Type 0
+Next a x = (at (a .next) x ≡ 0 → ⊥) → (isLink a (at (a .next) x) ≡ true) × (at (a .prev) (at (a .next) x) ≡ x)
+
+pub lowest-broken-whole : (a : Arena) (slot side : ℕ) → LowestBroken a slot side →
+    (isLink a slot ≡ true)
+    × ((side ≡ 1) ⊎ (side ≡ 2))
+    × (side ≡ 1 → Prev a slot → ⊥)
+    × (side ≡ 2 → Prev a slot)
+    × (side ≡ 2 → Next a slot → ⊥)
+    × ((x : ℕ) → x < slot → isLink a x ≡ true → Prev a x)
+    × ((x : ℕ) → x < slot → isLink a x ≡ true → Next a x)
+lowest-broken-whole a slot side l = (l .link, l .sides, l .prev, λ e. l .next e .0, λ e. l .next e .1, λ x h i. l .lower x h i .0, λ x h i. l .lower x h i .1)
+
+pub names-lowest-whole : (a : Arena) (r : Reply) → NamesLowest a r →
+    (r .number ≡ 11 → LowestBroken a (r .broken) (r .side))
+    × ((r .number ≡ 11 → ⊥) → r .broken ≡ 0)
+    × ((r .number ≡ 11 → ⊥) → r .side ≡ 0)
+names-lowest-whole a r n = (n .eleven, λ d. n .other d .0, λ d. n .other d .1)

@@ -4,7 +4,10 @@
 //! rounds' ratios is what counts, since the machine's pace is the same for both within a round and a call that was
 //! interrupted does not move the median. Our calls always check the arena first: where a call is measured against the crate
 //! with its own check before it, a second column has the crate without it. Each section is one function, and `main` lists
-//! them; words on the command line choose the sections that they begin.
+//! them; words on the command line choose the sections that they begin. Section `before` has the calls of earlier archives in
+//! the crate's place (before.rs).
+
+mod before;
 
 use std::cell::RefCell;
 use std::env;
@@ -14,7 +17,7 @@ use std::time::{Duration, Instant};
 use oracle::calls::{self, Tide};
 use oracle::compare::crate_text_found;
 use oracle::random::{self, Random, Style};
-use oracle::{Arena, COMMAND_WORDS, Call, LIMIT, Ptr, Reading, exports, model};
+use oracle::{Arena, COMMAND_WORDS, Call, LIMIT, Ptr, Reading, exports, model, side};
 
 /// How many times each side makes its call at least, and how often where one call takes long.
 const ROUNDS: usize = 31;
@@ -27,8 +30,9 @@ fn main() {
     if !crate_text_found() {
         println!("The crate's files are not at hand: the live comparison was skipped.");
     }
-    let sections: [(&str, usize, fn()); 8] = [
+    let sections: [(&str, usize, fn()); 9] = [
         ("check", 1, check_section),
+        ("before", 1, before_section),
         ("read", 1, read_section),
         ("run", 2, run_section),
         ("grow", 2, grow_section),
@@ -57,6 +61,40 @@ fn check_section() {
         for (kind, arena) in checked_kinds(slots) {
             let ours: Side = Box::new(again(|| _ = black_box(exports::check(black_box(&arena)))));
             row(slots, kind, slots, &measure(ROUNDS, vec![Some(ours), crate_check(&arena)]));
+        }
+    }
+}
+
+/// The check of the present archives and that of earlier ones, on the arenas of the section `check` and on one that is broken
+/// at its last slot. Both answer the same number and slot.
+fn before_section() {
+    let Some(folder) = before::folder() else {
+        println!(
+            "before: not measured; {} must name the folder that `bash archives` of an earlier landing has filled",
+            before::BEFORE
+        );
+        return;
+    };
+    let earlier = match before::chain_arena_check(&folder) {
+        Ok(earlier) => earlier,
+        Err(what) => {
+            println!("before: not measured, since {what}");
+            return;
+        }
+    };
+    println!(
+        "before: the check now, and as the archives in {} have it, nanoseconds a slot",
+        folder.display()
+    );
+    for slots in [2_048, LIMIT] {
+        let broken = ("chains of eight, broken last", broken_at_the_last(slots));
+        for (kind, arena) in checked_kinds(slots).into_iter().chain([broken]) {
+            let mut columns = before::Columns::of(&arena);
+            let (now, then) = (exports::check(&arena), earlier(&mut columns));
+            assert_eq!((now.number, now.broken), (then.number, then.broken), "{kind}");
+            let ours: Side = Box::new(again(|| _ = black_box(exports::check(black_box(&arena)))));
+            let theirs: Side = Box::new(again(|| _ = black_box(earlier(black_box(&mut columns)))));
+            row_of(&["before"], slots, kind, slots, &measure(ROUNDS, vec![Some(ours), Some(theirs)]));
         }
     }
 }
@@ -259,6 +297,15 @@ fn checked_kinds(slots: usize) -> Vec<(&'static str, Arena)> {
     kinds
 }
 
+/// Chains of eight in order, rule 11 failing at the next of the last slot alone.
+fn broken_at_the_last(slots: usize) -> Arena {
+    let style = Style { free: 0, longest: 8, even: true, scattered: false, closed: 0 };
+    let mut a = alike(random::whole(&mut Random::new(1), slots, slots, style));
+    a.next[slots - 1] = 1;
+    assert_eq!(model::broken_places(&a).collect::<Vec<_>>(), [(slots as u32, side::NEXT)]);
+    a
+}
+
 /// Arenas of so many slots, all in the stack, by kind, to be compressed.
 fn compressed_kinds(slots: usize) -> Vec<(&'static str, Arena)> {
     let style = |longest, scattered| Style { free: 0, longest, even: true, scattered, closed: 0 };
@@ -391,13 +438,17 @@ fn median(mut values: Vec<f64>) -> Option<f64> {
     values.get(values.len() / 2).copied()
 }
 
-/// Prints one row: each side by the item, and the ratios.
+/// Prints one row against the crate: each side by the item, and the ratios.
 fn row(slots: usize, kind: &str, items: usize, medians: &Medians) {
+    row_of(&["crate", "without"], slots, kind, items, medians);
+}
+
+/// Prints one row against sides of these names.
+fn row_of(names: &[&str], slots: usize, kind: &str, items: usize, medians: &Medians) {
     let digits = |number: f64| if number < 0.01 { 4 } else { 2 };
     let shown = |number: Option<f64>| number.map_or("-".to_string(), |n| format!("{n:.*}", digits(n)));
     let each = |nanos: Option<f64>| shown(nanos.map(|nanos| nanos / items as f64));
     print!("  {slots:>6}  {kind:<28} ours {:>6}", each(medians.nanos[0]));
-    let names = ["crate", "without"];
     for ((name, nanos), ratio) in names.iter().zip(&medians.nanos[1..]).zip(&medians.ratios) {
         print!("  {name} {:>6}  ratio {:>6}", each(*nanos), shown(*ratio));
     }
