@@ -348,7 +348,7 @@ fn no_row_of_a_computed_table_is_exchanged_for_another() {
     for (file, rows, number) in [
         ("Cases.antt", 31, 0x356631fc4c46cd21),
         ("Insertions.antt", 43, 0x32836b0d3ebd1cdf),
-        ("Refusals.antt", 56, 0x7d97b902863ca624),
+        ("Refusals.antt", 58, 0xaea7dc4d82a02594),
     ] {
         let text = fs::read_to_string(crates().join("definitions/specs").join(file)).unwrap();
         let said =

@@ -2,16 +2,9 @@
 use Prim.Native.Nat.{ℕ}
 use mathlib.Core.Path.{_≡_}
 use Rattle.definitions.specs.Arena.{Arena, capacityLimit}
-use Rattle.definitions.specs.Check.{verdict, prevSide, nextSide, brokenSlot, brokenSide}
-use Rattle.chain_arena.specs.declared.Side.{Side}
-use Rattle.chain_arena.specs.declared.Side.the-variants.{Prev, Next}
+use Rattle.definitions.specs.Check.{verdict, brokenSlot, brokenSide}
 use Rattle.chain_arena.specs.declared.Checked.{Checked}
 use Rattle.chain_arena.specs.declared.Checked.the-variants.{Passed, Refused, Broken}
-
--- the word of a side
-abbrev pub sideWord : Side → ℕ
-sideWord Prev = prevSide
-sideWord Next = nextSide
 
 -- the number of each answer (REFERENCE, Numbers), and the slot and the side at which rule 11 fails, else 0
 abbrev pub checkedNumber : Checked → ℕ
@@ -22,12 +15,12 @@ checkedNumber (Broken s d) = 11
 abbrev pub checkedSlot : Checked → ℕ
 checkedSlot Passed = 0
 checkedSlot (Refused k) = 0
-checkedSlot (Broken s d) = s .0
+checkedSlot (Broken s d) = s
 
 abbrev pub checkedSide : Checked → ℕ
 checkedSide Passed = 0
 checkedSide (Refused k) = 0
-checkedSide (Broken s d) = sideWord d
+checkedSide (Broken s d) = d
 
 -- the answer r to the arena a has the definition's number, slot and side
 pub record Checks (a : Arena) (r : Checked) : Type 0 where

@@ -5,37 +5,23 @@ ghost use lib.ListN.{length};
 ghost use Rattle.definitions.specs.Columns.{firstOr};
 ghost use Rattle.definitions.specs.Lent.{atEntry};
 ghost use Rattle.definitions.specs.Check.{namesBack, neighboursFine, brokenSlots, sideAt};
-ghost use Rattle.chain_arena.specs.Checked.{sideWord, checkedNumber, checkedSlot, checkedSide, Checks};
+ghost use Rattle.chain_arena.specs.Checked.{checkedNumber, checkedSlot, checkedSide, Checks};
 use base_arena::counts;
 use base_arena::shape;
 use header::LINK_COUNT;
 use header::ROOT;
 use header::STACK_LENGTH;
-use ptr::Slot;
 
-// The two neighbours of a link.
-pub enum Side {
-    Prev,
-    Next,
-}
+// The words of the two sides of a link (REFERENCE, Replies).
+const PREV_SIDE: u32 = 1;
 
-impl Side {
-    // The word of the side in an answer (REFERENCE, Replies).
-    pub fn word(self) -> u32
-        ensures { λ r. ⌜ r ≡ sideWord self ⌝ }
-    {
-        match self {
-            Side::Prev => 1,
-            Side::Next => 2,
-        }
-    }
-}
+const NEXT_SIDE: u32 = 2;
 
-// What the check answers: nothing is wrong, a refusal 1 to 10, or 11 with the lowest slot at which rule 11 fails and on which side.
+// What the check answers: nothing is wrong, a refusal 1 to 10, or 11 with the lowest slot at which rule 11 fails and the word of the side.
 pub enum Checked {
     Passed,
     Refused(u32),
-    Broken(Slot, Side),
+    Broken(u32, u32),
 }
 
 impl Checked {
@@ -57,18 +43,18 @@ impl Checked {
         match self {
             Checked::Passed => 0,
             Checked::Refused(_) => 0,
-            Checked::Broken(s, _) => s.0 as u32,
+            Checked::Broken(slot, _) => slot,
         }
     }
 
-    // The side on which it fails there, else 0.
+    // The word of the side on which it fails there, else 0.
     pub fn side(self) -> u32
         ensures { λ r. ⌜ r ≡ checkedSide self ⌝ }
     {
         match self {
             Checked::Passed => 0,
             Checked::Refused(_) => 0,
-            Checked::Broken(_, d) => d.word(),
+            Checked::Broken(_, side) => side,
         }
     }
 }
@@ -119,15 +105,15 @@ pub fn interlinks(prev: &[u16], next: &[u16], generation: &[u32], n: usize) -> u
     0
 }
 
-// On which side rule 11 fails at slot x, where it does: prev before next.
-pub fn broken_side(prev: &[u16], next: &[u16], generation: &[u32], n: usize, x: usize) -> Side
+// On which side rule 11 fails at slot x, where it does: prev if that does not name it back, else next.
+pub fn broken_side(prev: &[u16], next: &[u16], generation: &[u32], n: usize, x: usize) -> u32
     requires { ⌜ (n ≤ length (now prev)) × (n ≤ length (now next)) × (n ≤ length (now generation)) × (0 < x) × (x ≤ n) ⌝ }
-    ensures { λ r. ⌜ sideWord r ≡ sideAt (now (prev .entry)) (now (next .entry)) (now (generation .entry)) n x ⌝ }
+    ensures { λ r. ⌜ r ≡ sideAt (now (prev .entry)) (now (next .entry)) (now (generation .entry)) n x ⌝ }
 {
     if names_back(next, generation, n, x, prev[x - 1] as usize) {
-        return Side::Next;
+        return NEXT_SIDE;
     }
-    Side::Prev
+    PREV_SIDE
 }
 
 // The check of a lent arena.
@@ -157,9 +143,9 @@ pub fn check(
     }
     let broken = interlinks(prev, next, generation, n);
     if broken != 0 {
-        let slot = broken as u16;
+        let slot = broken as u32;
         let side = broken_side(prev, next, generation, n, broken);
-        return Checked::Broken(Slot(slot), side);
+        return Checked::Broken(slot, side);
     }
     Checked::Passed
 }

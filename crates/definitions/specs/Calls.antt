@@ -1,6 +1,6 @@
 -- The public calls, each with what it answers and leaves, and the check that comes before it (REFERENCE, Replies).
 use Prim.Native.Nat.{ℕ}
-use mathlib.Core.Bool.{Bool, true, false, cond}
+use mathlib.Core.Bool.{Bool, cond}
 use mathlib.Core.List.{List, [], _∷_}
 use lib.ListN.{length, replicate}
 use lib.Dec.{eqb}

@@ -83,6 +83,9 @@ rows =
     nextOf 2 (0 ∷ 0 ∷ []) (0 ∷ 1 ∷ []) (5 ∷ 5 ∷ []) (2 ∷ 2 ∷ 0 ∷ 5 ∷ []) ∷
     prevOf 2 (9 ∷ 9 ∷ []) (1 ∷ 0 ∷ []) (0 ∷ 5 ∷ []) (2 ∷ 1 ∷ 1 ∷ 5 ∷ []) ∷
     nextOf 2 (9 ∷ 0 ∷ []) (1 ∷ 9 ∷ []) (0 ∷ 5 ∷ []) (2 ∷ 1 ∷ 1 ∷ 5 ∷ []) ∷
+    -- one side is broken, and the neighbour on the other names it back
+    prevOf 1 (9 ∷ 1 ∷ []) (2 ∷ 0 ∷ []) (5 ∷ 5 ∷ []) (2 ∷ 2 ∷ 0 ∷ 5 ∷ []) ∷
+    nextOf 1 (2 ∷ 0 ∷ []) (9 ∷ 1 ∷ []) (5 ∷ 5 ∷ []) (2 ∷ 2 ∷ 0 ∷ 5 ∷ []) ∷
     -- a slot with both sides broken: its prev
     prevOf 1 (9 ∷ []) (9 ∷ []) (5 ∷ []) (1 ∷ 1 ∷ 0 ∷ 5 ∷ []) ∷
     prevOf 2 (0 ∷ 9 ∷ []) (0 ∷ 9 ∷ []) (5 ∷ 5 ∷ []) (2 ∷ 2 ∷ 0 ∷ 5 ∷ []) ∷

@@ -3,24 +3,24 @@
 use Prim.Native.Nat.{ℕ, _<_}
 use mathlib.Core.Path.{_≡_, refl, sym, ap, subst, _∙_}
 use mathlib.Core.Logic.{_⊎_, inl, inr, _↔_}
-use mathlib.Core.Bool.{Bool, true, false, cond, true≢false}
+use mathlib.Core.Bool.{Bool, true, false, true≢false}
 use mathlib.Core.List.{List}
 use native.Mathlib.Omega.{arith}
 use native.Mathlib.Decide.{ℕ-discrete, decLe}
 use lib.Dec.{eqb}
 use borrow.Author.Tests.{eqb-true}
 use Rattle.definitions.specs.Columns.{at}
-use Rattle.definitions.specs.Arena.{Arena, stackLength, isLink}
-use Rattle.definitions.specs.Check.{namesBack, verdict, sideAt, brokenSlot, brokenSide}
-use Rattle.definitions.specs.Reply.{Reply, reply}
-use Rattle.definitions.specs.Edit.{doneNumber}
-use Rattle.definitions.specs.Calls.{Call, accepted, replyTo}
+use Rattle.definitions.specs.Arena.{Arena, stackLength}
+use Rattle.definitions.specs.Check.{namesBack, verdict, FailsAt, sideAt, brokenSlot, brokenSide}
+use Rattle.definitions.specs.Reply.{Reply}
+use Rattle.definitions.specs.Calls.{Call, replyTo}
 use Rattle.definitions.proofs.Tests.{by-test}
 use Rattle.definitions.proofs.Slots.{allocated-some}
 use Rattle.definitions.proofs.Interlinks.{names-back, does-name-back, fine-link, fine-parts}
 use Rattle.definitions.proofs.Broken.{Lowest, lowestBroken, first-lowest, slot-with-eleven, side-with-eleven, slot-without, side-without}
 use Rattle.statements.specs.BrokenSlot.{PrevFine, NextFine, LowestBroken, NamesLowest}
 use Rattle.well_formed.proofs.Verdict.{eleven-broken, fails-at-links}
+use Rattle.well_formed.proofs.Eleven.{ButForNeighbours, eleven-exactly}
 use Rattle.every_call.proofs.OwnReplies.{Own, refused, done, own-reply}
 
 -- ---- the definitions
@@ -123,3 +123,9 @@ module _ (limit top : ℕ) (c : Call) (a : Arena) (l : List ℕ) where
 
   pub names-lowest-by-contract : (r : Reply) → r ≡ replyTo limit top c a l → NamesLowest a r
   names-lowest-by-contract r p = subst (λ (s : Reply). NamesLowest a s) (sym p) names-lowest
+
+  pub eleven-by-contract : (r : Reply) → r ≡ replyTo limit top c a l → (r .number ≡ 11) ↔ (ButForNeighbours limit a × ((s : ℕ) × FailsAt a s))
+  eleven-by-contract r p = (
+    λ e. eleven-exactly limit a .0 (eleven-by-call .0 (ap (λ (s : Reply). s .number) (sym p) ∙ e)),
+    λ h. ap (λ (s : Reply). s .number) p ∙ eleven-by-call .1 (eleven-exactly limit a .1 h),
+  )

@@ -2,7 +2,7 @@
 -- is done has taken the chain, an insertion that is done has put its link where the kind says, a canonical compression that is done has kept what one compression keeps (the field `one` of demand 3), and each answer of a run is one of seven words. Each is a theorem about the definitions,
 -- carried over by the contract's one equation. Assumes nothing.
 use Prim.Native.Nat.{ℕ, _≤_, _<_, _/_, _%_}
-use mathlib.Core.Path.{_≡_, refl, sym, ap, subst, _∙_}
+use mathlib.Core.Path.{_≡_, sym, ap, subst, _∙_}
 use mathlib.Core.Logic.{_⊎_, inl, inr, _↔_}
 use mathlib.Core.Bool.{Bool}
 use mathlib.Core.List.{List, [], _∷_, map}

@@ -11,7 +11,7 @@ use lib.Dec.{eqb}
 use borrow.Author.Tests.{eq-eqb, ne-eqb, eqb-true}
 use Rattle.definitions.specs.Columns.{at, count, written, settled}
 use Rattle.definitions.specs.Arena.{Arena, arena, capacity, stackLength, linkCount, current, linkSlots, isLink}
-use Rattle.definitions.specs.Check.{verdict, FailsAt, brokenSlot, brokenSide, WellFormed, SameRead}
+use Rattle.definitions.specs.Check.{verdict, FailsAt, brokenSlot, brokenSide, Freelist, WellFormed, SameRead}
 use Rattle.definitions.specs.Reply.{Reply, reply}
 use Rattle.definitions.specs.Read.{Pointer, pointer, stale}
 use Rattle.definitions.specs.Walk.{Walk, startAt, stateOf, step, walkStart, walkStep, walkFrom}
@@ -32,6 +32,7 @@ use Rattle.statements.specs.EveryCall.{Unchanged, AnswerWord, OneCommand}
 use Rattle.well_formed.proofs.WellFormed.{check-passes-exactly-if-well-formed}
 use Rattle.well_formed.proofs.ReadsOnly.{verdict-reads-only, broken-reads-only, payloads-are-not-read}
 use Rattle.well_formed.proofs.Verdict.{eleven-fails, verdict-bound}
+use Rattle.well_formed.proofs.Eleven.{eleven-exactly}
 use Rattle.chains.proofs.Links.{well-formed-linked}
 use Rattle.demand3.proofs.Equivalence.{well-formed-room}
 use Rattle.chains.proofs.Listings.{every-link-on-one-chain, listings-pair}
@@ -52,7 +53,7 @@ use Rattle.demand3.proofs.Equivalence.{exchanges-are-renaming, where-from, link
 use Rattle.demand3.proofs.Computed.{canonical-overflows, canonical-resets, order-preserving-overflows, moving-nothing-is-refused}
 use Rattle.demand3.proofs.Demand3.{demand-3, demand-3-at}
 use Rattle.every_call.proofs.RefusalChangesNothing.{refusal-changes-nothing}
-use Rattle.every_call.proofs.BrokenSlot.{broken-slot-is-lowest, lowest-broken-is-one, eleven-by-call, names-lowest, names-lowest-by-contract}
+use Rattle.every_call.proofs.BrokenSlot.{broken-slot-is-lowest, lowest-broken-is-one, eleven-by-call, names-lowest, names-lowest-by-contract, eleven-by-contract}
 use Rattle.every_call.proofs.EveryCallKeeps.{every-call-keeps, any-calls-keep, inside-a-run}
 use Rattle.every_call.proofs.CapacityStays.{capacity-stays, capacity-after-calls}
 use Rattle.every_call.proofs.RunIsFold.{reply-of-a-run, command-by-call, run-by-calls, one-command}
@@ -70,6 +71,21 @@ verdict-reads-only-in-full = verdict-reads-only
 
 pub eleven-fails-in-full : (limit : ℕ) (a : Arena) → verdict limit a ≡ 11 → (s : ℕ) × FailsAt a s
 eleven-fails-in-full = eleven-fails
+
+-- 11 comes exactly where the arena is well formed but for the neighbours, and rule 11 fails at some slot
+pub eleven-exactly-in-full : (limit : ℕ) (a : Arena) →
+    (verdict limit a ≡ 11)
+    ↔ (((length (a .header) ≡ 4)
+    × (length (a .prev) ≤ limit)
+    × (length (a .next) ≡ length (a .prev))
+    × (length (a .generation) ≡ length (a .prev))
+    × (length (a .payload) ≡ length (a .prev))
+    × (2 ≤ current a)
+    × (stackLength a ≤ length (a .prev))
+    × (linkCount a ≡ length (linkSlots (a .generation) (stackLength a)))
+    × ((fs : List ℕ) × Freelist a fs))
+    × ((s : ℕ) × FailsAt a s))
+eleven-exactly-in-full = eleven-exactly
 
 pub verdict-bound-in-full : (limit : ℕ) (a : Arena) → verdict limit a ≤ 11
 verdict-bound-in-full = verdict-bound
@@ -381,6 +397,20 @@ module _ (limit top : ℕ) (c : Call) (a : Arena) (l : List ℕ) where
 
   pub names-lowest-by-contract-in-full : (r : Reply) → r ≡ replyTo limit top c a l → NamesLowest a r
   names-lowest-by-contract-in-full = names-lowest-by-contract limit top c a l
+
+  pub eleven-by-contract-in-full : (r : Reply) → r ≡ replyTo limit top c a l →
+      (r .number ≡ 11)
+      ↔ (((length (a .header) ≡ 4)
+      × (length (a .prev) ≤ limit)
+      × (length (a .next) ≡ length (a .prev))
+      × (length (a .generation) ≡ length (a .prev))
+      × (length (a .payload) ≡ length (a .prev))
+      × (2 ≤ current a)
+      × (stackLength a ≤ length (a .prev))
+      × (linkCount a ≡ length (linkSlots (a .generation) (stackLength a)))
+      × ((fs : List ℕ) × Freelist a fs))
+      × ((s : ℕ) × FailsAt a s))
+  eleven-by-contract-in-full = eleven-by-contract limit top c a l
 
 pub programs-agree-in-full : (limit top : ℕ) (f g : Call → Arena → List ℕ → Reply) → ((c : Call) (a : Arena) (l : List ℕ) → f c a l ≡ replyTo limit top c a l)
     → ((c : Call) (a : Arena) (l : List ℕ) → g c a l ≡ replyTo limit top c a l) → (c : Call) (a : Arena) (l : List ℕ) → f c a l ≡ g c a l

@@ -1,7 +1,7 @@
 -- Demand 1, that a refused call has changed nothing (REFERENCE, Demands): `refusal-changes-nothing` says of every call that a reply that is neither 0
 -- nor 100 leaves the arena, columns and header, as it was, and hands back the lent slice, or the state of a walk, as it was handed in. Assumes nothing.
 use Prim.Native.Nat.{ℕ}
-use mathlib.Core.Path.{_≡_, refl}
+use mathlib.Core.Path.{refl}
 use mathlib.Core.Logic.{inl, inr}
 use mathlib.Core.Bool.{Bool, true, false}
 use mathlib.Core.List.{List, []}

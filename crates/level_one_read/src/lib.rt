@@ -1,8 +1,8 @@
-// Level One, reading links and neighbours, as a host calls it.
+// Level One, the check of an arena and reading links and neighbours, as a host calls it.
 ghost use mathlib.Core.List.{[], _∷_};
 ghost use Rattle.definitions.specs.Lent.{atEntry, atExit};
 ghost use Rattle.definitions.specs.Read.{pointer};
-ghost use Rattle.definitions.specs.Calls.{GetLink, GetLinkNoGen, AreNeighbors};
+ghost use Rattle.definitions.specs.Calls.{Check, GetLink, GetLinkNoGen, AreNeighbors};
 ghost use Rattle.answers.specs.Answered.{Answered};
 use answers::Answer;
 use answers::LinkNoGenResult;
@@ -32,6 +32,21 @@ pub struct LinkResult {
 pub struct NeighborsResult {
     pub answer: Answer,
     pub yes: u32,
+}
+
+// Whether the lent arena can be worked with: 0, or the number of the first rule that fails. Every other call makes this check first
+// (REFERENCE, Check).
+#[no_mangle]
+pub extern "C" fn chain_arena_check(
+    prev: &[u16],
+    next: &[u16],
+    generation: &[u32],
+    payload: &[u32],
+    header: &[u32],
+) -> Answer
+    ensures { λ r. ⌜ Answered Check (atEntry prev next generation payload header) [] r [] (atExit prev next generation payload header) [] ⌝ }
+{
+    checked(prev, next, generation, payload, header)
 }
 
 // The link at p and its neighbours with their generations (REFERENCE, Reading).

@@ -1,10 +1,10 @@
 // Replays stored answers of the calls that only read: the check, the links and the walk. The crate replay_cases says what the files stdin and stdout hold
 // and where they come from.
 use answers::LinkNoGenResult;
-use level_one_check::chain_arena_check;
 use level_one_read::LinkResult;
 use level_one_read::NeighborsResult;
 use level_one_read::chain_arena_are_neighbors;
+use level_one_read::chain_arena_check;
 use level_one_read::chain_arena_get_link;
 use level_one_read::chain_arena_get_link_no_gen;
 use level_one_walk::StepResult;

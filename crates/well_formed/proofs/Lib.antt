@@ -1,3 +1,4 @@
 pub mod WellFormed
 pub mod ReadsOnly
 pub mod Verdict
+pub mod Eleven

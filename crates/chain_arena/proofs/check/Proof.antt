@@ -3,10 +3,9 @@
 use mathlib.Core.Path.{sym, _∙_}
 use native.Mathlib.Omega.{arith}
 use mir.Facts.{fits-widen}
-use borrow.Author.Tests.{eq-eqb}
 use Rattle.definitions.specs.Arena.{Arena, arena, capacityLimit}
 use Rattle.definitions.proofs.Shaped.{Shaped}
-use Rattle.definitions.proofs.Broken.{all-fine-first, first-within}
+use Rattle.definitions.proofs.Broken.{first-within}
 use Rattle.base_arena.proofs.Refusals.{shaped-if-accepted}
 use Rattle.chain_arena.proofs.Verdict.{checks-shape, checks-counts, checks-broken, checks-passed}
 use borrow.Author.Needs.{needs}
@@ -34,7 +33,7 @@ returns-2 c =
     let found : tie.After-counts = search in
     checks-counts _ _ (shape-passed (search)) (found .counts .ensures) (c .if2 .taken)
 
--- the slot that `interlinks` found is one of the stack
+-- the slot that `interlinks` found is one of the stack, or 0
 cast-slot : tie.Need-cast-slot
 cast-slot c =
     let found : tie.After-interlinks = search in
@@ -48,20 +47,17 @@ broken-side-requires c κs =
 returns-3 : tie.Need-returns-3
 returns-3 c =
     let found : tie.After-interlinks = search in
-    let sided : tie.After-broken-side = search in
+    let some : tie.Then3 = search in
     let on : tie.Else2 = search in
-    let failed : tie.Then3 = search in
     let counted : tie.After-counts = search in
-    let none = sym (counted .counts .ensures) ∙ on .if2 .left in
-    checks-broken _ _ _ (shape-passed (search)) none (found .interlinks .ensures) (failed .if3 .taken) (sided .broken-side .ensures)
+    checks-broken _ (shape-passed (search)) (sym (counted .counts .ensures) ∙ on .if2 .left) _ (found .interlinks .ensures) _ (some .if3 .taken) (c .broken-side .ensures)
 
 returns-4 : tie.Need-returns-4
 returns-4 c =
     let found : tie.After-interlinks = search in
     let on : tie.Else2 = search in
     let counted : tie.After-counts = search in
-    let none = sym (counted .counts .ensures) ∙ on .if2 .left in
-    checks-passed _ (shape-passed (search)) none (all-fine-first _ _ _ _ ∙ eq-eqb _ 0 (sym (found .interlinks .ensures) ∙ c .if3 .left))
+    checks-passed _ (shape-passed (search)) (sym (counted .counts .ensures) ∙ on .if2 .left) _ (found .interlinks .ensures) (c .if3 .left)
 
 pub check-spec : {M : Type 1} → statement M
 check-spec =

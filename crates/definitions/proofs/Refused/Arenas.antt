@@ -2,10 +2,10 @@
 -- the check does not read.
 use Prim.Native.Nat.{ℕ, zero, suc, _≤_}
 use mathlib.Core.Path.{_≡_, refl, sym, ap, _∙_}
-use mathlib.Core.Bool.{Bool, true, false, true≢false}
+use mathlib.Core.Bool.{true, true≢false}
 use mathlib.Core.List.{List, [], _∷_}
 use native.Mathlib.Omega.{arith}
-use Rattle.definitions.specs.Columns.{at, count, firstOr, lastOr, slotsFrom, keep, Linked}
+use Rattle.definitions.specs.Columns.{at, firstOr, lastOr, slotsFrom, keep, Linked}
 use Rattle.definitions.specs.Arena.{Arena, arena, allocated, linkSlots}
 use Rattle.definitions.specs.Check.{FailsAt, Freelist, WellFormed, SameRead, namesBack, neighboursFine}
 use Rattle.definitions.proofs.Slots.{count-nil, count-there, allocated-within}
@@ -113,7 +113,7 @@ freelist-once-refused f = omega (arith, f .once 2 (omega arith) (omega arith) re
 
 -- ---- FailsAt
 
--- a link whose next is none, or names it back
+-- a link whose prev names it back and which has no next
 pub fails-at-refused : FailsAt (oneSided (0 ∷ 1 ∷ []) (2 ∷ 0 ∷ [])) 2 → ⊥
 unfolding at allocated namesBack neighboursFine
 fails-at-refused f = true≢false f

@@ -1,10 +1,10 @@
 -- What every call promises, the reply `replyTo`: each part of it has a wrong reply that this part alone refuses. And the slots of a drain's report, computed.
 use Prim.Native.Nat.{ℕ}
 use mathlib.Core.Path.{_≡_, refl, ap}
-use mathlib.Core.List.{List, [], _∷_}
+use mathlib.Core.List.{[], _∷_}
 use native.Mathlib.Omega.{arith}
 use lib.ListN.{getD}
-use Rattle.definitions.specs.Columns.{at, firstOr, slotsFrom, keep}
+use Rattle.definitions.specs.Columns.{at, firstOr, lastOr, slotsFrom, keep}
 use Rattle.definitions.specs.Arena.{Arena, arena, allocated, linkSlots, freeSlots}
 use Rattle.definitions.specs.Check.{misshapen, freelistWalk, namesBack, neighboursFine, allFine, countsOf, verdict, brokenSlots, sideAt, brokenSlot, brokenSide}
 use Rattle.definitions.specs.Reply.{Reply, reply}
@@ -56,12 +56,17 @@ reply-to-side-refused e = omega (arith, ap (λ (s : Reply). s .side) e)
 
 -- with 11, any slot but the lowest, and any side but its own
 pub reply-to-another-slot-refused : (s : ℕ) → (s ≡ 1 → ⊥) → naming 11 s 2 twoBroken ≡ replyTo 5 9 Check twoBroken [] → ⊥
-unfolding at firstOr slotsFrom keep allocated linkSlots freeSlots misshapen freelistWalk namesBack neighboursFine allFine countsOf verdict brokenSlots sideAt brokenSlot brokenSide accepted replyTo
+unfolding at firstOr lastOr slotsFrom keep allocated linkSlots freeSlots misshapen freelistWalk namesBack neighboursFine allFine countsOf verdict brokenSlots sideAt brokenSlot brokenSide accepted replyTo
 reply-to-another-slot-refused s d e = d (ap (λ (r : Reply). r .broken) e)
 
 pub reply-to-another-side-refused : (d : ℕ) → (d ≡ 2 → ⊥) → naming 11 1 d twoBroken ≡ replyTo 5 9 Check twoBroken [] → ⊥
 unfolding at firstOr slotsFrom keep allocated linkSlots freeSlots misshapen freelistWalk namesBack neighboursFine allFine countsOf verdict brokenSlots sideAt brokenSlot brokenSide accepted replyTo
 reply-to-another-side-refused d n e = n (ap (λ (r : Reply). r .side) e)
+
+-- and every call hands on the check's slot and side, as a step does, whose state is as it was
+pub reply-to-handed-on : replyTo 5 9 WalkStep twoBroken (3 ∷ 4 ∷ 0 ∷ 7 ∷ []) ≡ record { number = 11; broken = 1; side = 2; fields = 0 ∷ 0 ∷ []; arena = twoBroken; back = 3 ∷ 4 ∷ 0 ∷ 7 ∷ [] }
+unfolding at firstOr slotsFrom keep allocated linkSlots freeSlots misshapen freelistWalk namesBack neighboursFine allFine countsOf verdict brokenSlots sideAt brokenSlot brokenSide onward step walkStep accepted replyTo
+reply-to-handed-on = refl
 
 -- ---- the slots of a report of two items
 

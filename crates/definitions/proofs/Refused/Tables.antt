@@ -1,9 +1,7 @@
 -- The tables that are computed: each has all its rows, and of every row what the definitions answer and leave is what the row expects, with the port's own limits.
-use Prim.Native.Nat.{ℕ}
-use mathlib.Core.Path.{_≡_, refl, ap}
-use mathlib.Core.List.{List, [], _∷_, _++_, map}
+use mathlib.Core.Path.{_≡_, refl}
+use mathlib.Core.List.{[], _∷_, _++_, map}
 use lib.ListN.{length}
-use Rattle.definitions.specs.Arena.{Arena, capacityLimit, largestGeneration}
 use Rattle.definitions.specs.Check.{verdict, brokenSlot, brokenSide}
 use Rattle.definitions.specs.Reply.{Reply}
 use Rattle.definitions.specs.Calls.{repliesTo, arenaAfter}
@@ -33,7 +31,7 @@ pub insertions-hold-whole : (length insertions.rows ≡ 43) × (map answered ins
 unfolding insertions.rows
 insertions-hold-whole = (refl, insertions.insertions-hold)
 
-pub each-refusal-whole : (length refusals.rows ≡ 56)
+pub each-refusal-whole : (length refusals.rows ≡ 58)
     × (map (λ (r : refusals.Row). verdict 2 (r .of) ∷ brokenSlot 2 (r .of) ∷ brokenSide 2 (r .of) ∷ []) refusals.rows ≡ map (λ (r : refusals.Row). r .number ∷ r .broken ∷ r .side ∷ []) refusals.rows)
 unfolding refusals.rows
 each-refusal-whole = (refl, refusals.each-refusal)

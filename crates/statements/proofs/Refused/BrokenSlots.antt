@@ -1,5 +1,5 @@
 -- What goes with 11: `LowestBroken` and `NamesLowest`. For each field a wrong slot, side or reply that it alone refuses.
-use Prim.Native.Nat.{ℕ, _<_}
+use Prim.Native.Nat.{ℕ}
 use mathlib.Core.Path.{_≡_, refl, sym}
 use mathlib.Core.Logic.{_⊎_, inl, inr}
 use mathlib.Core.Bool.{true≢false}

@@ -1,21 +1,20 @@
 -- Every statement gives what it says for every slot, chain, arena and call: each field is used here once more in its full range, without the name of its record.
 -- So a field that leaves out some slots, or one kind of chain, is refused although the small arenas of the other files do not show it.
 use Prim.Native.Nat.{ℕ, suc, _+_, _*_, _≤_, _<_}
-use mathlib.Core.Path.{_≡_, refl, sym, ap, _∙_}
+use mathlib.Core.Path.{_≡_, refl}
 use mathlib.Core.Logic.{_⊎_, _↔_}
 use mathlib.Core.Bool.{true, false}
 use mathlib.Core.List.{List, [], _∷_, _++_, map, reverse}
-use native.Mathlib.Omega.{arith}
 use lib.ListN.{length, getD, take, drop}
 use Rattle.definitions.specs.Columns.{at, count, firstOr, lastOr, slotsFrom, Linked}
 use Rattle.definitions.specs.Arena.{Arena, capacity, stackLength, linkCount, root, current, isLink}
 use Rattle.definitions.specs.Insert.{InsertKind}
 use Rattle.definitions.specs.Check.{verdict, WellFormed}
-use Rattle.statements.specs.Chains.{Kind, opened, closed, IsOpen, IsClosed, Chain, IsChain, Rotation, Like, Alike, nth, Listing, OnOneChain, Renaming, pieces, replaced, Paired, HoldTheSame}
+use Rattle.statements.specs.Chains.{opened, closed, IsOpen, IsClosed, Chain, IsChain, Like, Alike, nth, Listing, OnOneChain, Renaming, pieces, replaced, Paired, HoldTheSame}
 use Rattle.definitions.specs.Reply.{Reply}
 use Rattle.definitions.specs.Walk.{startAt, walked}
 use Rattle.definitions.specs.Calls.{CompressCanonical, Made, replyTo, repliesTo, arenaAfter}
-use Rattle.statements.specs.Demand3.{Accepted, Every, Agree, Further, made, LiesFrom, compress, Compressed, OfOne, Unmoved, Demand3}
+use Rattle.statements.specs.Demand3.{Accepted, Every, Agree, Further, made, LiesFrom, Compressed, OfOne, Unmoved, Demand3}
 use Rattle.statements.specs.WalkOrder.{WalkOrder, Walks}
 use Rattle.definitions.specs.Report.{itemSlots}
 use Rattle.statements.specs.DrainsChain.{Untouched, overflowsAt, DrainsChain}

@@ -1,9 +1,11 @@
-//! Calls of an earlier landing's archives, to be measured beside the present ones in one run.
+//! Calls of the archives of two landings, the present one and an earlier one, to be measured beside each other in one run.
 //!
-//! `CHAIN_ARENA_BEFORE` names the folder of the earlier archives when the benchmark is run. They export the names that this
-//! program is linked with already, so `ld` makes a shared object of what the call needs of its archive, and the call is looked
-//! up in there. Widths of columns and fields of results are the earlier landing's, and stand here alone; a further call is a
-//! line of `earlier!`.
+//! `CHAIN_ARENA_ARCHIVES` and `CHAIN_ARENA_BEFORE` name the folders of the archives when the benchmark is run. Both export the
+//! same names, so `ld` makes a shared object of what a call needs of its archive, and the call is looked up in there. How long
+//! a loop takes depends on where its code lies as well: each call is loaded at four places, as far into a line of the cache as
+//! a linker may put it.
+//!
+//! Widths of slots and fields of results are each landing's own; a further call is a line in each `landing!`.
 
 use std::env;
 use std::ffi::{CString, c_char, c_int, c_void};
@@ -14,19 +16,19 @@ use std::process::{self, Command};
 
 use oracle::Arena;
 
-/// The environment variable that names the folder.
-pub const BEFORE: &str = "CHAIN_ARENA_BEFORE";
-
-/// The folder of the earlier archives, if it is named.
-pub fn folder() -> Option<PathBuf> {
-    env::var_os(BEFORE).map(PathBuf::from).filter(|folder| !folder.as_os_str().is_empty())
+/// The folders of the present and of the earlier archives, or what is missing.
+pub fn folders() -> Result<[PathBuf; 2], String> {
+    let folder = |name| env::var_os(name).map(PathBuf::from).filter(|folder| !folder.as_os_str().is_empty());
+    match [folder("CHAIN_ARENA_ARCHIVES"), folder("CHAIN_ARENA_BEFORE")] {
+        [Some(now), Some(before)] => Ok([now, before]),
+        _ => Err("CHAIN_ARENA_ARCHIVES and CHAIN_ARENA_BEFORE must name the folders that `bash archives` has filled now \
+                  and in an earlier landing"
+            .to_string()),
+    }
 }
 
-/// A slot, as the columns had it.
-type Slot = u16;
-
-/// The columns and the header, as the calls took them.
-pub struct Columns {
+/// The columns and the header of an arena, as the calls of a landing take them.
+pub struct Columns<Slot> {
     prev: Vec<Slot>,
     next: Vec<Slot>,
     generation: Vec<u32>,
@@ -34,13 +36,13 @@ pub struct Columns {
     header: Vec<u32>,
 }
 
-impl Columns {
-    /// Those of an arena that was small enough for them.
+impl<Slot: TryFrom<u32>> Columns<Slot> {
+    /// Those of an arena whose slots are numbers of that width.
     pub fn of(a: &Arena) -> Self {
-        let slots = |column: &[_]| column.iter().map(|&slot| Slot::try_from(slot).expect("a slot")).collect();
+        let slot = |&slot: &_| Slot::try_from(u32::from(slot)).ok().expect("a slot of that width");
         Self {
-            prev: slots(&a.prev),
-            next: slots(&a.next),
+            prev: a.prev.iter().map(slot).collect(),
+            next: a.next.iter().map(slot).collect(),
             generation: a.generation.clone(),
             payload: a.payload.clone(),
             header: a.header.clone(),
@@ -48,37 +50,59 @@ impl Columns {
     }
 }
 
-/// What a call answered that answered a number and nothing else.
-#[repr(C)]
-pub struct PlainResult {
-    pub number: u32,
-    pub broken: u32,
-}
+/// A landing: the width of its slots, its results with their fields, and its calls, each in its archive. A call becomes a
+/// function that loads it from a folder and answers, for each place it is loaded at, what makes it on columns.
+macro_rules! landing {
+    (
+        $landing:ident, slots $slot:ty;
+        $($result:ident { $($field:ident)* })*;
+        $($archive:ident $call:ident($($argument:ident: $type:ty),*) -> $answer:ident;)*
+    ) => {
+        pub mod $landing {
+            use super::*;
 
-/// Gives each call a function that finds it in its archive, and answers what makes it on columns.
-macro_rules! earlier {
-    ($($call:ident($($argument:ident: $type:ty),*) -> $result:ident in $archive:ident;)*) => {
-        $(pub fn $call(folder: &Path) -> Result<impl Fn(&mut Columns $(, $type)*) -> $result, String> {
-            type Call = unsafe extern "C" fn(
-                *mut Slot, usize, *mut Slot, usize, *mut u32, usize, *mut u32, usize, *mut u32, usize $(, $type)*
-            ) -> $result;
-            let found = address(folder, stringify!($archive), stringify!($call))?;
-            // Safety: the archive has the call with these parameters and this result.
-            let call = unsafe { std::mem::transmute::<*mut c_void, Call>(found) };
-            // Safety: each pointer and count are those of one vector.
-            Ok(move |a: &mut Columns $(, $argument: $type)*| unsafe {
-                call(
-                    a.prev.as_mut_ptr(), a.prev.len(), a.next.as_mut_ptr(), a.next.len(),
-                    a.generation.as_mut_ptr(), a.generation.len(), a.payload.as_mut_ptr(), a.payload.len(),
-                    a.header.as_mut_ptr(), a.header.len() $(, $argument)*
-                )
-            })
-        })*
+            $(#[repr(C)]
+            pub struct $result {
+                $(pub $field: u32),*
+            })*
+
+            $(pub fn $call(
+                folder: &Path,
+            ) -> Result<Vec<impl Fn(&mut Columns<$slot> $(, $type)*) -> $answer + use<>>, String> {
+                type Call = unsafe extern "C" fn(
+                    *mut $slot, usize, *mut $slot, usize, *mut u32, usize, *mut u32, usize, *mut u32, usize
+                    $(, $type)*
+                ) -> $answer;
+                let archive = folder.join(concat!("lib", stringify!($archive), ".a"));
+                let found = addresses(stringify!($landing), &archive, stringify!($call))?.into_iter();
+                // Safety: the archive has the call with these parameters and this result.
+                let calls = found.map(|found| unsafe { std::mem::transmute::<*mut c_void, Call>(found) });
+                // Safety: each pointer and count are those of one vector.
+                Ok(calls
+                    .map(|call| move |a: &mut Columns<$slot> $(, $argument: $type)*| unsafe {
+                        call(
+                            a.prev.as_mut_ptr(), a.prev.len(), a.next.as_mut_ptr(), a.next.len(),
+                            a.generation.as_mut_ptr(), a.generation.len(),
+                            a.payload.as_mut_ptr(), a.payload.len(), a.header.as_mut_ptr(), a.header.len()
+                            $(, $argument)*
+                        )
+                    })
+                    .collect())
+            })*
+        }
     };
 }
 
-earlier! {
-    chain_arena_check() -> PlainResult in level_one;
+landing! {
+    before, slots u16;
+    PlainResult { number broken };
+    level_one chain_arena_check() -> PlainResult;
+}
+
+landing! {
+    now, slots u16;
+    PlainResult { number broken side };
+    level_one chain_arena_check() -> PlainResult;
 }
 
 unsafe extern "C" {
@@ -89,14 +113,24 @@ unsafe extern "C" {
 /// To `dlopen`: find everything at once, and lend no name to others.
 const NOW_AND_LOCAL: c_int = 2;
 
-/// The address of a call of an archive in the folder, which stays loaded.
-fn address(folder: &Path, archive: &str, call: &str) -> Result<*mut c_void, String> {
-    let from = folder.join(format!("lib{archive}.a"));
-    let object = env::temp_dir().join(format!("before_{}_{call}.so", process::id()));
-    let linked =
-        Command::new("ld").args(["-shared", "-Bsymbolic", "-u", call, "-o"]).args([&object, &from]).status();
+/// Where the code of an object begins: at the start of a line of the cache, and a quarter further each.
+const PLACES: [u32; 4] = [0x1000, 0x1010, 0x1020, 0x1030];
+
+/// The addresses of a call of a landing's archive, one for each place; it stays loaded.
+fn addresses(landing: &str, archive: &Path, call: &str) -> Result<Vec<*mut c_void>, String> {
+    PLACES.iter().map(|place| address(landing, archive, call, *place)).collect()
+}
+
+/// The address of a call of an archive whose code begins at a place. Each object has a name of its own, since one that is
+/// loaded already is not loaded again.
+fn address(landing: &str, archive: &Path, call: &str, place: u32) -> Result<*mut c_void, String> {
+    let object = env::temp_dir().join(format!("{landing}_{call}_{place:x}_{}.so", process::id()));
+    let linked = Command::new("ld")
+        .args(["-shared", "-Bsymbolic", &format!("-Ttext={place:#x}"), "-u", call, "-o"])
+        .args([&object, archive])
+        .status();
     if !linked.is_ok_and(|status| status.success()) {
-        return Err(format!("ld could not link {}", from.display()));
+        return Err(format!("ld could not link {}", archive.display()));
     }
     let [path, name] =
         [object.as_os_str().as_bytes(), call.as_bytes()].map(|text| CString::new(text).expect("a name"));
@@ -107,8 +141,7 @@ fn address(folder: &Path, archive: &str, call: &str) -> Result<*mut c_void, Stri
     };
     let _ = fs::remove_file(&object);
     if found.is_null() {
-        Err(format!("{} has no {call} that could be loaded", from.display()))
-    } else {
-        Ok(found)
+        return Err(format!("{} has no {call} that could be loaded", archive.display()));
     }
+    Ok(found)
 }

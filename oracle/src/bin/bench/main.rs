@@ -4,8 +4,8 @@
 //! rounds' ratios is what counts, since the machine's pace is the same for both within a round and a call that was
 //! interrupted does not move the median. Our calls always check the arena first: where a call is measured against the crate
 //! with its own check before it, a second column has the crate without it. Each section is one function, and `main` lists
-//! them; words on the command line choose the sections that they begin. Section `before` has the calls of earlier archives in
-//! the crate's place (before.rs).
+//! them; words on the command line choose the sections that they begin. Section `before` has two landings in place of the
+//! product and the crate (before.rs).
 
 mod before;
 
@@ -18,6 +18,8 @@ use oracle::calls::{self, Tide};
 use oracle::compare::crate_text_found;
 use oracle::random::{self, Random, Style};
 use oracle::{Arena, COMMAND_WORDS, Call, LIMIT, Ptr, Reading, exports, model, side};
+
+use before::Columns;
 
 /// How many times each side makes its call at least, and how often where one call takes long.
 const ROUNDS: usize = 31;
@@ -68,35 +70,42 @@ fn check_section() {
 /// The check of the present archives and that of earlier ones, on the arenas of the section `check` and on one that is broken
 /// at its last slot. Both answer the same number and slot.
 fn before_section() {
-    let Some(folder) = before::folder() else {
-        println!(
-            "before: not measured; {} must name the folder that `bash archives` of an earlier landing has filled",
-            before::BEFORE
-        );
-        return;
-    };
-    let earlier = match before::chain_arena_check(&folder) {
-        Ok(earlier) => earlier,
+    let found = before::folders().and_then(|[now, before]| {
+        Ok((before::now::chain_arena_check(&now)?, before::before::chain_arena_check(&before)?))
+    });
+    let (now, before) = match found {
+        Ok(found) => found,
         Err(what) => {
-            println!("before: not measured, since {what}");
+            println!("before: not measured; {what}");
             return;
         }
     };
     println!(
-        "before: the check now, and as the archives in {} have it, nanoseconds a slot",
-        folder.display()
+        "before: the check now and before, each loaded at {} places, nanoseconds a slot: all of them, the quickest and the \
+         slowest",
+        now.len()
     );
     for slots in [2_048, LIMIT] {
         let broken = ("chains of eight, broken last", broken_at_the_last(slots));
         for (kind, arena) in checked_kinds(slots).into_iter().chain([broken]) {
-            let mut columns = before::Columns::of(&arena);
-            let (now, then) = (exports::check(&arena), earlier(&mut columns));
-            assert_eq!((now.number, now.broken), (then.number, then.broken), "{kind}");
-            let ours: Side = Box::new(again(|| _ = black_box(exports::check(black_box(&arena)))));
-            let theirs: Side = Box::new(again(|| _ = black_box(earlier(black_box(&mut columns)))));
-            row_of(&["before"], slots, kind, slots, &measure(ROUNDS, vec![Some(ours), Some(theirs)]));
+            let (new, old) = (RefCell::new(Columns::of(&arena)), RefCell::new(Columns::of(&arena)));
+            let (told, once) = (now[0](&mut new.borrow_mut()), before[0](&mut old.borrow_mut()));
+            assert_eq!((told.number, told.broken), (once.number, once.broken), "{kind}");
+            let sides = places(&now, &new).chain(places(&before, &old)).collect();
+            landings_row(slots, kind, slots, &measure(ROUNDS, sides));
         }
     }
+}
+
+/// A side for each place at which a call is loaded, all of them on the same columns.
+fn places<'a, C, R>(
+    calls: &'a [impl Fn(&mut C) -> R],
+    columns: &'a RefCell<C>,
+) -> impl Iterator<Item = Option<Side<'a>>> {
+    calls.iter().map(move |call| {
+        let side: Side = Box::new(again(move || _ = black_box(call(black_box(&mut columns.borrow_mut())))));
+        Some(side)
+    })
 }
 
 /// Reading one chain, pointer and payload of each link, through the wrapper's view of a checked arena, the one check in its
@@ -438,17 +447,27 @@ fn median(mut values: Vec<f64>) -> Option<f64> {
     values.get(values.len() / 2).copied()
 }
 
-/// Prints one row against the crate: each side by the item, and the ratios.
-fn row(slots: usize, kind: &str, items: usize, medians: &Medians) {
-    row_of(&["crate", "without"], slots, kind, items, medians);
+/// Prints one row of two landings, whose sides are the places of the one and then of the other: what a call takes by the item,
+/// over all places, at the quickest and at the slowest, and the ratio.
+fn landings_row(slots: usize, kind: &str, items: usize, medians: &Medians) {
+    let nanos: Vec<f64> = medians.nanos.iter().flatten().map(|nanos| nanos / items as f64).collect();
+    let (now, before) = nanos.split_at(nanos.len() / 2);
+    let mean = |of: &[f64]| of.iter().sum::<f64>() / of.len() as f64;
+    let shown = |of: &[f64]| {
+        let [least, most] = [f64::min, f64::max].map(|pick| of.iter().copied().reduce(pick).unwrap_or(0.0));
+        format!("{:.2} ({least:.2} to {most:.2})", mean(of))
+    };
+    let ratio = mean(now) / mean(before);
+    println!("  {slots:>6}  {kind:<28} now {}  before {}  ratio {ratio:.2}", shown(now), shown(before));
 }
 
-/// Prints one row against sides of these names.
-fn row_of(names: &[&str], slots: usize, kind: &str, items: usize, medians: &Medians) {
+/// Prints one row: each side by the item, and the ratios.
+fn row(slots: usize, kind: &str, items: usize, medians: &Medians) {
     let digits = |number: f64| if number < 0.01 { 4 } else { 2 };
     let shown = |number: Option<f64>| number.map_or("-".to_string(), |n| format!("{n:.*}", digits(n)));
     let each = |nanos: Option<f64>| shown(nanos.map(|nanos| nanos / items as f64));
     print!("  {slots:>6}  {kind:<28} ours {:>6}", each(medians.nanos[0]));
+    let names = ["crate", "without"];
     for ((name, nanos), ratio) in names.iter().zip(&medians.nanos[1..]).zip(&medians.ratios) {
         print!("  {name} {:>6}  ratio {:>6}", each(*nanos), shown(*ratio));
     }
