@@ -17,7 +17,8 @@
  * Every result begins with three words (Replies):
  *   number   0: done; 100: done, and the generation overflowed; any other: refused, and why
  *   broken   with number 11 the lowest slot at which rule 11 fails, else 0
- *   side     with number 11 where it fails there, CHAIN_ARENA_SIDE_..: 1 at the prev, 2 at the next alone; else 0
+ *   side     with number 11 where it fails there, CHAIN_ARENA_SIDE_..: 1 at the prev, 2 at the next alone (with 1 the next
+ *            may be wrong too); else 0
  * Every call begins with the check, which goes over the whole stack, and gives its refusal, 1 to 11. A refused call has
  * written nothing, and the further words of its result are 0; only a step answers its state, as it got it.
  *

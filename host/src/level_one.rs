@@ -8,7 +8,7 @@ impl<'a> Arena<'a> {
     ///
     /// # Errors
     ///
-    /// 1 to 11: the first rule that fails.
+    /// 1 to 11: the first rule that fails. With 11 the refusal has the slot and the side.
     pub fn check(&self) -> Result<(), Refusal> {
         call!(chain_arena_check(self, as_ptr)).done().map(|_| ())
     }

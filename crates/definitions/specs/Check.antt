@@ -81,7 +81,7 @@ nextSide = 2
 unfoldable pub sideAt : List ℕ → List ℕ → List ℕ → ℕ → ℕ → ℕ
 sideAt ps ns gs n x = cond (namesBack ns gs n x (at ps x)) nextSide prevSide
 
--- the words `broken` and `side` of an answer: with 11 the lowest slot at which the rule fails, and on which side; in every other case 0 and 0
+-- the words `broken` and `side` of an answer: with 11 the lowest of the slots that break the rule, and the side that breaks it; in every other case 0 and 0
 -- (REFERENCE, Replies)
 unfoldable pub brokenSlot : ℕ → Arena → ℕ
 brokenSlot limit a = cond (eqb (verdict limit a) 11) (firstOr 0 (brokenSlots (a .prev) (a .next) (a .generation) (stackLength a))) 0

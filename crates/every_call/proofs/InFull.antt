@@ -111,7 +111,7 @@ pub refused-by-the-check : (limit top : ℕ) (c : Call) (a : Arena) (l : List �
 unfolding replyTo
 refused-by-the-check limit top c a l broken = let e = ne-eqb (verdict limit a) 0 broken in (rw e refl, rw e refl, rw e refl, rw e refl, rw e refl)
 
--- with 11 it is the lowest slot at which the rule fails, on the side that it fails, prev before next; and with any other number there is none
+-- with 11 no lower slot breaks the rule, and the side is the one that breaks it, prev before next; with any other number there is neither
 pub broken-slot-is-lowest-in-full : (limit : ℕ) (a : Arena) →
     (verdict limit a ≡ 11 → LowestBroken a (brokenSlot limit a) (brokenSide limit a)) × ((verdict limit a ≡ 11 → ⊥) → (brokenSlot limit a ≡ 0) × (brokenSide limit a ≡ 0))
 broken-slot-is-lowest-in-full = broken-slot-is-lowest

@@ -95,14 +95,20 @@ macro_rules! landing {
 
 landing! {
     before, slots u16;
-    PlainResult { number broken };
+    PlainResult { number broken }
+    LinkNoGenResult { number broken prev next payload };
     level_one chain_arena_check() -> PlainResult;
+    level_one chain_arena_get_link_no_gen(slot: u16, generation: u32) -> LinkNoGenResult;
+    level_two chain_arena_remove(slot: u16, generation: u32) -> LinkNoGenResult;
 }
 
 landing! {
     now, slots u16;
-    PlainResult { number broken side };
+    PlainResult { number broken side }
+    LinkNoGenResult { number broken side prev next payload };
     level_one chain_arena_check() -> PlainResult;
+    level_one chain_arena_get_link_no_gen(slot: u16, generation: u32) -> LinkNoGenResult;
+    level_two chain_arena_remove(slot: u16, generation: u32) -> LinkNoGenResult;
 }
 
 unsafe extern "C" {

@@ -67,6 +67,33 @@ fn check_section() {
     }
 }
 
+/// Measures a call with a stale pointer, which is the check and little more.
+macro_rules! stale_rows {
+    ($call:ident) => {
+        let found = before::folders()
+            .and_then(|[now, before]| Ok((before::now::$call(&now)?, before::before::$call(&before)?)));
+        match found {
+            Ok((now, before)) => {
+                println!("before: {} of a stale pointer", stringify!($call));
+                let now: Vec<_> = now.iter().map(|call| move |columns: &mut _| call(columns, 0, 0)).collect();
+                let before: Vec<_> =
+                    before.iter().map(|call| move |columns: &mut _| call(columns, 0, 0)).collect();
+                for slots in [2_048, LIMIT] {
+                    for (kind, arena) in checked_kinds(slots) {
+                        let (new, old) =
+                            (RefCell::new(Columns::of(&arena)), RefCell::new(Columns::of(&arena)));
+                        let (told, once) = (now[0](&mut new.borrow_mut()), before[0](&mut old.borrow_mut()));
+                        assert_eq!((told.number, once.number), (12, 12), "{kind}");
+                        let sides = places(&now, &new).chain(places(&before, &old)).collect();
+                        landings_row(slots, kind, slots, &measure(ROUNDS, sides));
+                    }
+                }
+            }
+            Err(what) => println!("before: {} not measured; {what}", stringify!($call)),
+        }
+    };
+}
+
 /// The check of the present archives and that of earlier ones, on the arenas of the section `check` and on one that is broken
 /// at its last slot. Both answer the same number and slot.
 fn before_section() {
@@ -95,6 +122,8 @@ fn before_section() {
             landings_row(slots, kind, slots, &measure(ROUNDS, sides));
         }
     }
+    stale_rows!(chain_arena_get_link_no_gen);
+    stale_rows!(chain_arena_remove);
 }
 
 /// A side for each place at which a call is loaded, all of them on the same columns.
