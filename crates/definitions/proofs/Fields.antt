@@ -13,7 +13,8 @@ use Rattle.definitions.specs.Remove.{remove, drain, canonicalizeFreelist
 use Rattle.definitions.specs.Insert.{Coded, kind, unknown, kindOf, Place, nowhere, between, placeOf, newSlot, insertAt, insert, insertCoded}
 use Rattle.definitions.specs.Run.{run}
 use Rattle.definitions.specs.Compress.{compressWith, compressCanonical}
-use Rattle.definitions.specs.Calls.{Call, Check, GetLink, GetLinkNoGen, AreNeighbors, WalkStart, WalkStep, Connect, BreakPrev, BreakNext, ExchangeNext, Insert, Remove, Drain, SetGeneration, IncGeneration, CanonicalizeFreelist, Run, CompressWith, CompressCanonical, accepted}
+use Rattle.definitions.specs.Clock.{dueCount, dueEvents}
+use Rattle.definitions.specs.Calls.{Call, Check, GetLink, GetLinkNoGen, AreNeighbors, WalkStart, WalkStep, DueCount, DueEvents, Connect, BreakPrev, BreakNext, ExchangeNext, Insert, Remove, Drain, SetGeneration, IncGeneration, CanonicalizeFreelist, Run, CompressWith, CompressCanonical, accepted}
 
 abbrev pub fieldsOf : Call → ℕ
 fieldsOf Check = 0
@@ -22,6 +23,8 @@ fieldsOf (GetLinkNoGen p) = 3
 fieldsOf (AreNeighbors p q) = 1
 fieldsOf (WalkStart p) = 4
 fieldsOf WalkStep = 2
+fieldsOf (DueCount p from to) = 1
+fieldsOf (DueEvents p from to) = 1
 fieldsOf (Connect p q) = 0
 fieldsOf (BreakPrev p) = 0
 fieldsOf (BreakNext p) = 0
@@ -51,13 +54,15 @@ coded-fields a unknown x l = refl
 coded-fields a (kind k) x l = insert-fields a (placeOf a (newSlot a) k) x l
 
 pub fields-length : (top : ℕ) (c : Call) (a : Arena) (l : List ℕ) → length (accepted top c a l .fields) ≡ fieldsOf c
-unfolding accepted getLink getLinkNoGen areNeighbors walkStart walkStep connect breakPrev breakNext exchangeNext setGeneration incGeneration remove drain canonicalizeFreelist run compressWith compressCanonical
+unfolding accepted getLink getLinkNoGen areNeighbors walkStart walkStep dueCount dueEvents connect breakPrev breakNext exchangeNext setGeneration incGeneration remove drain canonicalizeFreelist run compressWith compressCanonical
 fields-length top Check a l = refl
 fields-length top (GetLink p) a l = search either depth 8
 fields-length top (GetLinkNoGen p) a l = search either depth 8
 fields-length top (AreNeighbors p q) a l = refl
 fields-length top (WalkStart p) a l = search either depth 8
 fields-length top WalkStep a l = refl
+fields-length top (DueCount p from to) a l = search either depth 8
+fields-length top (DueEvents p from to) a l = search either depth 8
 fields-length top (Connect p q) a l = search either depth 8
 fields-length top (BreakPrev p) a l = search either depth 8
 fields-length top (BreakNext p) a l = search either depth 8

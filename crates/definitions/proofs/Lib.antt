@@ -16,4 +16,5 @@ pub mod Relisted
 pub mod Steps
 pub mod Numbers
 pub mod Written
+pub mod Clock
 pub mod Refused

@@ -14,6 +14,7 @@ use Rattle.definitions.specs.Remove.{remove, drain, canonicalizeFreelist
 use Rattle.definitions.specs.Insert.{kindOf, insertCoded}
 use Rattle.definitions.specs.Run.{Command, run}
 use Rattle.definitions.specs.Compress.{compressWith, compressCanonical}
+use Rattle.definitions.specs.Clock.{dueCount, dueEvents}
 
 -- a call with its arguments. What is handed in to be handed back, the lent slice that a call may write or the state of a walk, stands beside it
 pub data Call : Type 0 where
@@ -23,6 +24,8 @@ pub data Call : Type 0 where
   AreNeighbors : Pointer → Pointer → Call
   WalkStart : Pointer → Call
   WalkStep : Call
+  DueCount : Pointer → ℕ → ℕ → Call
+  DueEvents : Pointer → ℕ → ℕ → Call
   Connect : Pointer → Pointer → Call
   BreakPrev : Pointer → Call
   BreakNext : Pointer → Call
@@ -45,6 +48,8 @@ accepted top (GetLinkNoGen p) a l = getLinkNoGen a p l
 accepted top (AreNeighbors p q) a l = areNeighbors a p q l
 accepted top (WalkStart p) a l = walkStart a p l
 accepted top WalkStep a l = walkStep a l
+accepted top (DueCount p from to) a l = dueCount a p from to l
+accepted top (DueEvents p from to) a l = dueEvents a p from to l
 accepted top (Connect p q) a l = connect a p q l
 accepted top (BreakPrev p) a l = breakPrev a p l
 accepted top (BreakNext p) a l = breakNext a p l

@@ -8,13 +8,14 @@ use Rattle.definitions.specs.Arena.{Arena, arena, capacityLimit, largest
 use Rattle.definitions.specs.Reply.{Reply}
 use Rattle.definitions.specs.Read.{pointer, stale, getLink, getLinkNoGen, neighbors, areNeighbors}
 use Rattle.definitions.specs.Walk.{walk, walkStart, onward, step, walkStep, walked}
-use Rattle.definitions.specs.Calls.{Call, Made, GetLink, GetLinkNoGen, AreNeighbors, BreakPrev, BreakNext, SetGeneration, IncGeneration, CanonicalizeFreelist, Run, CompressWith, Check, WalkStart, WalkStep, Connect, ExchangeNext, Remove, Drain, CompressCanonical, repliesTo, arenaAfter, accepted, replyTo}
+use Rattle.definitions.specs.Calls.{Call, Made, GetLink, GetLinkNoGen, AreNeighbors, BreakPrev, BreakNext, SetGeneration, IncGeneration, CanonicalizeFreelist, Run, CompressWith, Check, WalkStart, WalkStep, DueCount, DueEvents, Connect, ExchangeNext, Remove, Drain, CompressCanonical, repliesTo, arenaAfter, accepted, replyTo}
 use Rattle.definitions.specs.Columns.{at, put, firstOr, lastOr, slotsFrom, keep, written, settled}
 use Rattle.definitions.specs.Check.{misshapen, freelistWalk, namesBack, neighboursFine, allFine, countsOf, verdict}
 use Rattle.definitions.specs.Edit.{connect, breakPrev, breakNext, exchangeNext, nextGeneration, overflows, setGeneration, incGeneration}
 use Rattle.definitions.specs.Remove.{joined, vacated, removed, remove, removedAll, drainItems, overflowItem, drain, threaded, canonicalizeFreelist}
 use Rattle.definitions.specs.Insert.{kindOf, insertCoded}
 use Rattle.definitions.specs.Run.{apply, applied, answersOf, run}
+use Rattle.definitions.specs.Clock.{isWindow, due, dueSlots, dueCount, dueEvents}
 use Rattle.definitions.specs.Compress.{raises, compressGeneration, compressNumber, place, relocate, movesOf, compressWith, exchanged, exchangeWords, exchangeLinks, exchangeSlots, putAtI, lowestFrom, startOf, layChain, layChains, laidOut, canonicalArena, compressCanonical}
 
 pub record Row : Type 0 where
@@ -54,6 +55,10 @@ three = arena (0 ∷ 1 ∷ 2 ∷ []) (2 ∷ 3 ∷ 0 ∷ []) (5 ∷ 5 ∷ 5 ∷ [
 
 abbrev closedPair : Arena
 closedPair = arena (2 ∷ 1 ∷ []) (2 ∷ 1 ∷ []) (5 ∷ 5 ∷ []) (11 ∷ 12 ∷ []) (2 ∷ 2 ∷ 0 ∷ 5 ∷ [])
+
+-- five links in one open chain. Their payloads: the first dot of the frame, the last dot of line 0, the first dot of line 1, the last dot of the frame, and one past it
+abbrev frame : Arena
+frame = arena (0 ∷ 1 ∷ 2 ∷ 3 ∷ 4 ∷ []) (2 ∷ 3 ∷ 4 ∷ 5 ∷ 0 ∷ []) (5 ∷ 5 ∷ 5 ∷ 5 ∷ 5 ∷ []) (0 ∷ 340 ∷ 341 ∷ 89341 ∷ 89342 ∷ []) (5 ∷ 5 ∷ 0 ∷ 5 ∷ [])
 
 -- the table
 unfoldable pub rows : List Row
@@ -128,8 +133,24 @@ corners =
     row (arena (4 ∷ []) (1 ∷ []) (0 ∷ []) (6 ∷ []) (1 ∷ 0 ∷ 1 ∷ 5 ∷ [])) (with (CompressWith true) [] ∷ []) ((0 ∷ []) ∷ []) (arena (0 ∷ []) (0 ∷ []) (0 ∷ []) (0 ∷ []) (0 ∷ 0 ∷ 0 ∷ 2 ∷ [])) ∷
     -- a reset at the largest generation is no overflow
     row (arena (0 ∷ 1 ∷ []) (2 ∷ 0 ∷ []) (5 ∷ 5 ∷ []) (11 ∷ 12 ∷ []) (2 ∷ 2 ∷ 0 ∷ 4294967295 ∷ [])) (with (CompressCanonical true) (9 ∷ 9 ∷ []) ∷ []) ((0 ∷ 1 ∷ 2 ∷ []) ∷ []) (arena (0 ∷ 1 ∷ []) (2 ∷ 0 ∷ []) (2 ∷ 2 ∷ []) (11 ∷ 12 ∷ []) (2 ∷ 2 ∷ 0 ∷ 2 ∷ [])) ∷
+    -- due in a window that goes straight: its first dot is in it and its end is not, which may be the end of the frame
+    row frame (plain (DueCount (pointer 1 5) 0 341) ∷ plain (DueCount (pointer 1 5) 0 340) ∷ plain (DueCount (pointer 1 5) 340 342) ∷ plain (DueCount (pointer 1 5) 341 89341) ∷ plain (DueCount (pointer 1 5) 341 89342) ∷ plain (DueCount (pointer 1 5) 0 89342) ∷ []) ((0 ∷ 2 ∷ []) ∷ (0 ∷ 1 ∷ []) ∷ (0 ∷ 2 ∷ []) ∷ (0 ∷ 1 ∷ []) ∷ (0 ∷ 2 ∷ []) ∷ (0 ∷ 4 ∷ []) ∷ []) frame ∷
+    -- equal ends: nothing
+    row frame (plain (DueCount (pointer 1 5) 0 0) ∷ plain (DueCount (pointer 1 5) 340 340) ∷ plain (DueCount (pointer 1 5) 89341 89341) ∷ []) ((0 ∷ 0 ∷ []) ∷ (0 ∷ 0 ∷ []) ∷ (0 ∷ 0 ∷ []) ∷ []) frame ∷
+    -- across the end of the frame: on either side of it, and never a payload past the frame
+    row frame (plain (DueCount (pointer 1 5) 341 340) ∷ plain (DueCount (pointer 1 5) 89341 0) ∷ plain (DueCount (pointer 1 5) 89341 1) ∷ plain (DueCount (pointer 1 5) 340 0) ∷ []) ((0 ∷ 3 ∷ []) ∷ (0 ∷ 1 ∷ []) ∷ (0 ∷ 2 ∷ []) ∷ (0 ∷ 3 ∷ []) ∷ []) frame ∷
+    -- no window: one that begins at 89,342, and one that ends behind it; a stale pointer comes before
+    row frame (plain (DueCount (pointer 1 5) 89342 0) ∷ plain (DueCount (pointer 1 5) 89342 89342) ∷ plain (DueCount (pointer 1 5) 0 89343) ∷ plain (DueCount (pointer 1 6) 89342 89343) ∷ plain (DueCount (pointer 6 5) 0 341) ∷ []) ((19 ∷ 0 ∷ []) ∷ (19 ∷ 0 ∷ []) ∷ (19 ∷ 0 ∷ []) ∷ (12 ∷ 0 ∷ []) ∷ (12 ∷ 0 ∷ []) ∷ []) frame ∷
+    -- the slots of those that are due, in the order of a walk from the middle, and from the first link across the end of the frame; the other words of the report stay
+    row frame (with (DueEvents (pointer 3 5) 0 89342) (9 ∷ 9 ∷ 9 ∷ 9 ∷ 9 ∷ 9 ∷ []) ∷ with (DueEvents (pointer 1 5) 341 340) (9 ∷ 9 ∷ 9 ∷ 9 ∷ 9 ∷ []) ∷ with (DueEvents (pointer 5 5) 89341 89341) (9 ∷ 9 ∷ 9 ∷ 9 ∷ 9 ∷ []) ∷ []) ((0 ∷ 4 ∷ 3 ∷ 4 ∷ 2 ∷ 1 ∷ 9 ∷ 9 ∷ []) ∷ (0 ∷ 3 ∷ 1 ∷ 3 ∷ 4 ∷ 9 ∷ 9 ∷ []) ∷ (0 ∷ 0 ∷ 9 ∷ 9 ∷ 9 ∷ 9 ∷ 9 ∷ []) ∷ []) frame ∷
+    -- a report that is shorter than the chain: 14, although it has room for those that are due; no window comes before, and a stale pointer first
+    row frame (with (DueEvents (pointer 1 5) 0 341) (9 ∷ 9 ∷ 9 ∷ 9 ∷ []) ∷ with (DueEvents (pointer 1 5) 0 89343) (9 ∷ 9 ∷ 9 ∷ 9 ∷ []) ∷ with (DueEvents (pointer 1 6) 89342 0) (9 ∷ 9 ∷ 9 ∷ 9 ∷ []) ∷ []) ((14 ∷ 0 ∷ 9 ∷ 9 ∷ 9 ∷ 9 ∷ []) ∷ (19 ∷ 0 ∷ 9 ∷ 9 ∷ 9 ∷ 9 ∷ []) ∷ (12 ∷ 0 ∷ 9 ∷ 9 ∷ 9 ∷ 9 ∷ []) ∷ []) frame ∷
+    -- a closed chain, once round from the second link
+    row closedPair (plain (DueCount (pointer 2 5) 11 13) ∷ plain (DueCount (pointer 2 5) 12 11) ∷ with (DueEvents (pointer 2 5) 11 13) (9 ∷ 9 ∷ 9 ∷ []) ∷ with (DueEvents (pointer 2 5) 13 12) (9 ∷ 9 ∷ []) ∷ []) ((0 ∷ 2 ∷ []) ∷ (0 ∷ 1 ∷ []) ∷ (0 ∷ 2 ∷ 2 ∷ 1 ∷ 9 ∷ []) ∷ (0 ∷ 1 ∷ 1 ∷ 9 ∷ []) ∷ []) closedPair ∷
+    -- another chain is left out, and its links need no room in the report
+    row (arena (0 ∷ 0 ∷ 1 ∷ []) (3 ∷ 0 ∷ 0 ∷ []) (5 ∷ 5 ∷ 5 ∷ []) (11 ∷ 12 ∷ 13 ∷ []) (3 ∷ 3 ∷ 0 ∷ 5 ∷ [])) (plain (DueCount (pointer 1 5) 0 89342) ∷ with (DueEvents (pointer 3 5) 0 89342) (9 ∷ 9 ∷ []) ∷ with (DueEvents (pointer 2 5) 12 13) (9 ∷ []) ∷ []) ((0 ∷ 2 ∷ []) ∷ (0 ∷ 2 ∷ 3 ∷ 1 ∷ []) ∷ (0 ∷ 1 ∷ 2 ∷ []) ∷ []) (arena (0 ∷ 0 ∷ 1 ∷ []) (3 ∷ 0 ∷ 0 ∷ []) (5 ∷ 5 ∷ 5 ∷ []) (11 ∷ 12 ∷ 13 ∷ []) (3 ∷ 3 ∷ 0 ∷ 5 ∷ [])) ∷
     []
 
 pub corners-hold : map computed corners ≡ map expected corners
-unfolding corners at put firstOr lastOr slotsFrom keep written settled allocated linkSlots freeSlots misshapen freelistWalk namesBack neighboursFine allFine countsOf verdict stale getLink getLinkNoGen neighbors areNeighbors walkStart onward step walkStep walked connect breakPrev breakNext exchangeNext nextGeneration overflows setGeneration incGeneration joined vacated removed remove removedAll drainItems overflowItem drain threaded canonicalizeFreelist kindOf insertCoded apply applied answersOf run raises compressGeneration compressNumber place relocate movesOf compressWith exchanged exchangeWords exchangeLinks exchangeSlots putAtI lowestFrom startOf layChain layChains laidOut canonicalArena compressCanonical accepted replyTo repliesTo arenaAfter
+unfolding corners at put firstOr lastOr slotsFrom keep written settled allocated linkSlots freeSlots misshapen freelistWalk namesBack neighboursFine allFine countsOf verdict stale getLink getLinkNoGen neighbors areNeighbors walkStart onward step walkStep walked connect breakPrev breakNext exchangeNext nextGeneration overflows setGeneration incGeneration joined vacated removed remove removedAll drainItems overflowItem drain threaded canonicalizeFreelist kindOf insertCoded apply applied answersOf run raises compressGeneration compressNumber place relocate movesOf compressWith exchanged exchangeWords exchangeLinks exchangeSlots putAtI lowestFrom startOf layChain layChains laidOut canonicalArena compressCanonical isWindow due dueSlots dueCount dueEvents accepted replyTo repliesTo arenaAfter
 corners-hold = refl

@@ -10,8 +10,10 @@ pub mod Remove
 pub mod Insert
 pub mod Run
 pub mod Compress
+pub mod Clock
 pub mod Calls
 pub mod Report
 pub mod Cases
 pub mod Insertions
 pub mod Refusals
+pub mod Lines

@@ -7,6 +7,7 @@ pub mod BrokenSlots
 pub mod Calls
 pub mod Walks
 pub mod Drains
+pub mod Clock
 pub mod Insertions
 pub mod Whole
 pub mod Meanings

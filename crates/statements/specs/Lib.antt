@@ -6,3 +6,4 @@ pub mod DrainsChain
 pub mod InsertPlaces
 pub mod BrokenSlot
 pub mod EveryCall
+pub mod FrameClock

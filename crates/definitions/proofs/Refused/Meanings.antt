@@ -1,6 +1,6 @@
--- What the definitions mean that statements are made of, in full and without their names: lists of slots, the place where rule 11 fails, calls made one after the
--- other, and the arena that a contract speaks of at entry and at exit.
-use Prim.Native.Nat.{ℕ, suc, _+_, _-_, _*_, _/_, _≤_}
+-- What the definitions mean that statements are made of, in full and without their names: lists of slots, the place where rule 11 fails, the frame clock, calls made
+-- one after the other, and the arena that a contract speaks of at entry and at exit.
+use Prim.Native.Nat.{ℕ, suc, _+_, _-_, _*_, _/_, _≤_, _<_}
 use mathlib.Core.Path.{_≡_, refl}
 use mathlib.Core.Logic.{_⊎_, inl, inr, _↔_}
 use mathlib.Core.Bool.{Bool, true, false, cond, not, _&&_, _||_}
@@ -8,7 +8,7 @@ use mathlib.Core.List.{List, [], _∷_, _++_, map}
 use lib.ListN.{length, getD, set, drop, replicate}
 use native.Mathlib.Omega.{arith}
 use lib.Dec.{eqb, leb, ltb}
-use borrow.Author.Tests.{eq-eqb, ne-eqb}
+use borrow.Author.Tests.{eq-eqb, ne-eqb, lt-ltb, le-ltb}
 use denote.Ref.{now}
 use denote.Triple.Both.{Both}
 use Rattle.definitions.specs.Columns.{at, put, count, firstOr, lastOr, Linked, slotsFrom, keep, written, settled}
@@ -50,6 +50,7 @@ use Rattle.definitions.specs.Remove.{remove}
 use Rattle.definitions.specs.Run.{Command, commandAt, commandsOf, apply}
 use Rattle.definitions.specs.Compress.{place, relocate}
 use Rattle.definitions.specs.Report.{itemSlots}
+use Rattle.definitions.specs.Clock.{frameLines, dotsPerLine, frameDots, firstDot, lastDot, lineOf, told, lineOfDot, lineDots, isWindow, due, dueSlots, dueCount, dueEvents}
 use Rattle.definitions.specs.Calls.{Call, Connect, BreakPrev, BreakNext, ExchangeNext, Remove, Insert, Made, accepted, replyTo, callOf, repliesTo, arenaAfter}
 use Rattle.definitions.specs.Lent.{Column, atEntry, atExit}
 use Rattle.definitions.proofs.Codes.{no-kind}
@@ -348,6 +349,81 @@ module _ (limit top : ℕ) (m : Made) (ms : List Made) (a : Arena) where
   pub arena-after-whole : (arenaAfter limit top [] a ≡ a) × (arenaAfter limit top (m ∷ ms) a ≡ arenaAfter limit top ms (replyTo limit top (m .call) a (m .hands) .arena))
   unfolding arenaAfter
   arena-after-whole = (refl, refl)
+
+-- ---- the frame clock: 262 lines of 341 dots, windows, and what is due
+
+pub frame-lines-whole : frameLines ≡ 262
+frame-lines-whole = refl
+
+pub dots-per-line-whole : dotsPerLine ≡ 341
+dots-per-line-whole = refl
+
+pub frame-dots-whole : frameDots ≡ 89342
+frame-dots-whole = refl
+
+pub first-dot-whole : (line : ℕ) → firstDot line ≡ 341 * line
+unfolding firstDot
+first-dot-whole line = refl
+
+pub last-dot-whole : (line : ℕ) → lastDot line ≡ 341 * line + 340
+unfolding firstDot lastDot
+last-dot-whole line = refl
+
+-- the dot is not before the first dot of its line, and before the first dot of the next one
+pub line-of-whole : (dot : ℕ) → (341 * lineOf dot ≤ dot) × (dot < 341 * lineOf dot + 341)
+unfolding lineOf
+line-of-whole dot = (omega arith, omega arith)
+
+pub told-whole : (k : ℕ) (fs : List ℕ) → (told k fs .number ≡ k) × (told k fs .fields ≡ fs)
+told-whole k fs = (refl, refl)
+
+pub line-of-dot-whole : (dot : ℕ) → lineOfDot dot ≡ cond (ltb dot 89342) (told 0 ((dot / 341) ∷ [])) (told 19 (0 ∷ []))
+unfolding lineOf lineOfDot
+line-of-dot-whole dot = refl
+
+pub line-dots-whole : (line : ℕ) → lineDots line ≡ cond (ltb line 262) (told 0 ((341 * line) ∷ (341 * line + 340) ∷ [])) (told 19 (0 ∷ 0 ∷ []))
+unfolding firstDot lastDot lineDots
+line-dots-whole line = refl
+
+pub is-window-whole : (from to : ℕ) → isWindow from to ≡ ltb from 89342 && leb to 89342
+unfolding isWindow
+is-window-whole from to = refl
+
+-- so past the frame never; in a window that goes straight, between its ends; in one that crosses the end of the frame, on either side of it
+pub due-whole : (from to v : ℕ) →
+    (due from to v ≡ ltb v 89342 && cond (ltb to from) (leb from v || ltb v to) (leb from v && ltb v to))
+    × (89342 ≤ v → due from to v ≡ false)
+    × (v < 89342 → from ≤ to → due from to v ≡ leb from v && ltb v to)
+    × (v < 89342 → to < from → due from to v ≡ leb from v || ltb v to)
+unfolding due
+due-whole from to v = (
+  refl,
+  λ past. rw (le-ltb v 89342 past) refl,
+  λ dot straight. rw (lt-ltb v 89342 dot, le-ltb to from straight) refl,
+  λ dot crosses. rw (lt-ltb v 89342 dot, lt-ltb to from crosses) refl,
+)
+
+pub due-slots-whole : (a : Arena) (s from to : ℕ) → dueSlots a s from to ≡ keep (λ x. due from to (at (a .payload) x)) (walked a (linkCount a) (startAt a s))
+unfolding dueSlots
+due-slots-whole a s from to = refl
+
+-- 12 before 19, and 19 before 14, which is about the whole chain
+pub due-count-whole : (a : Arena) (p : Pointer) (from to : ℕ) (l : List ℕ) →
+    dueCount a p from to l
+    ≡ cond (stale a p) (reply 12 (0 ∷ []) a l)
+    (cond (isWindow from to) (reply 0 (length (dueSlots a (p .slot) from to) ∷ []) a l) (reply 19 (0 ∷ []) a l))
+unfolding dueCount
+due-count-whole a p from to l = refl
+
+pub due-events-whole : (a : Arena) (p : Pointer) (from to : ℕ) (report : List ℕ) →
+    dueEvents a p from to report
+    ≡ cond (stale a p) (reply 12 (0 ∷ []) a report)
+    (cond (isWindow from to)
+    (cond (ltb (length report) (length (walkFrom a (p .slot)))) (reply 14 (0 ∷ []) a report)
+    (reply 0 (length (dueSlots a (p .slot) from to) ∷ []) a (written (dueSlots a (p .slot) from to) report)))
+    (reply 19 (0 ∷ []) a report))
+unfolding dueEvents
+due-events-whole a p from to report = refl
 
 -- ---- what is lent: all five slices at entry, and all five at exit
 
