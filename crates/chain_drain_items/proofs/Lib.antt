@@ -1,4 +1,3 @@
-pub mod Ahead
 pub mod Listing
 pub mod Items
 pub mod Draining

@@ -9,8 +9,9 @@ use Rattle.definitions.specs.Arena.{Arena}
 use Rattle.definitions.specs.Walk.{Walk, Stepped, step}
 use Rattle.definitions.specs.Report.{itemSlots}
 use Rattle.drains.proofs.Report.{length-items, items-more}
-use Rattle.chain_drain_items.specs.Items.{slotsAhead, Listed}
-use Rattle.chain_drain_items.proofs.Ahead.{ahead-none, ahead-some, ahead-short}
+use Rattle.chain_ahead.specs.Ahead.{slotsAhead}
+use Rattle.chain_drain_items.specs.Items.{Listed}
+use Rattle.chain_ahead.proofs.Ahead.{ahead-none, ahead-some, ahead-short}
 
 -- a walk that was at w₀ is at w, after so many items
 pub record Listing (a : Arena) (w₀ w : Walk) (old new : List ℕ) (items : ℕ) : Type 0 where

@@ -6,14 +6,9 @@ use mathlib.Core.List.{List, [], _∷_, _++_}
 use lib.ListN.{length, take, drop}
 use Rattle.definitions.specs.Columns.{at, written}
 use Rattle.definitions.specs.Arena.{Arena}
-use Rattle.definitions.specs.Walk.{Walk, walked}
 use Rattle.definitions.specs.Remove.{removedAll, drainItems, overflowItem}
 use Rattle.base_slots.specs.Removal.{TakenOut}
 use Rattle.definitions.specs.Report.{itemSlots}
-
--- the slots that the rest of a walk answers
-abbrev pub slotsAhead : Arena → Walk → List ℕ
-slotsAhead a w = walked a (w .left) w
 
 -- the slots ss stand in a report, each as the first word of its item, and the words past the items are the old ones
 pub record Listed (ss old new : List ℕ) (items : ℕ) : Type 0 where

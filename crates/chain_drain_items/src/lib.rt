@@ -10,40 +10,18 @@ ghost use Rattle.definitions.specs.Lent.{lent, atEntry, atExit};
 ghost use Rattle.definitions.proofs.Shaped.{Shaped};
 ghost use Rattle.base_slots.specs.Removal.{Stands, Removable};
 ghost use Rattle.chain_iterators.specs.Walk.{walkOf};
+ghost use Rattle.chain_ahead.specs.Ahead.{slotsAhead};
 ghost use Rattle.drains.specs.Drainable.{Drainable};
 ghost use Rattle.definitions.specs.Report.{itemSlots};
-ghost use Rattle.chain_drain_items.specs.Items.{slotsAhead, Listed, itemWords, overwritten, ItemDrained, ItemsDrained};
+ghost use Rattle.chain_drain_items.specs.Items.{Listed, itemWords, overwritten, ItemDrained, ItemsDrained};
 use base_removal::take_out;
+use chain_ahead::too_few;
 use chain_iterators::ChainPtrAdvancer;
 use columns::slot_at;
 use columns::word_at;
 use ptr::Slot;
 
-// How many links the rest of a walk answers.
-pub fn links_ahead(
-    prev: &[u16],
-    next: &[u16],
-    generation: &[u32],
-    payload: &[u32],
-    header: &[u32],
-    mut walk: ChainPtrAdvancer,
-) -> u32
-    requires { ⌜ Shaped capacityLimit (lent prev next generation payload header) ⌝ }
-    ensures { λ r. ⌜ r ≡ length (slotsAhead (atEntry prev next generation payload header) (walkOf walk)) ⌝ }
-{
-    let mut links: u32 = 0;
-    loop {
-        let step = walk.advance(prev, next, generation, payload, header);
-        if step.slot == 0 {
-            return links;
-        }
-        links += 1;
-        walk = step.state;
-    }
-}
-
-// Whether `room` words are fewer than five for each link of the rest of a walk. There are no more links than advances left, so where these have room
-// nothing is walked.
+// Whether `room` words are fewer than five for each link of the rest of a walk.
 pub fn too_short(
     prev: &[u16],
     next: &[u16],
@@ -56,11 +34,7 @@ pub fn too_short(
     requires { ⌜ Shaped capacityLimit (lent prev next generation payload header) ⌝ }
     ensures { λ r. ⌜ r ≡ ltb room (5 * length (slotsAhead (atEntry prev next generation payload header) (walkOf walk))) ⌝ }
 {
-    let items = room / 5;
-    if walk.max_advances as usize <= items {
-        return false;
-    }
-    items < links_ahead(prev, next, generation, payload, header, walk) as usize
+    too_few(prev, next, generation, payload, header, walk, room / 5)
 }
 
 // Writes the slots of the rest of a walk into the report, each as the first word of its item. Answers how many.

@@ -7,8 +7,9 @@ use Rattle.definitions.specs.Arena.{Arena}
 use Rattle.definitions.specs.Lent.{lent}
 use Rattle.chain_iterators.specs.Walk.{walkOf}
 use Rattle.chain_traits.specs.Read.{pointerOf}
-use Rattle.chain_drain_items.specs.Items.{slotsAhead}
-use Rattle.chain_drain.proofs.Answers.{StartedAt, started, drain-none, drain-short, has-room, listed-room, drain-can, drain-done}
+use Rattle.chain_ahead.specs.Ahead.{slotsAhead}
+use Rattle.chain_ahead.proofs.Started.{StartedAt, started}
+use Rattle.chain_drain.proofs.Answers.{drain-none, drain-short, has-room, listed-room, drain-can, drain-done}
 use Rattle.well_formed.proofs.WellFormed.{shape-if-well-formed}
 use Rattle.chain_drain.proofs.drain.Statement.{statement}
 use Rattle.chain_drain.proofs.drain.Tie as tie

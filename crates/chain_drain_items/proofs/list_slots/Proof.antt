@@ -6,7 +6,7 @@ use borrow.Author.Needs.{needs}
 use lib.ListN.{length}
 use Rattle.definitions.specs.Arena.{arena}
 use Rattle.chain_iterators.specs.Walk.{walkOf}
-use Rattle.chain_drain_items.proofs.Ahead.{ahead-less}
+use Rattle.chain_ahead.proofs.Ahead.{ahead-less}
 use Rattle.chain_drain_items.proofs.Listing.{Listing, listing-starts, listing-ends, listing-small, listing-room, listing-goes-on}
 use Rattle.chain_drain_items.proofs.list_slots.Statement.{statement}
 use Rattle.chain_drain_items.proofs.list_slots.Tie as tie

@@ -1,12 +1,12 @@
--- `chain_drain_items::links_ahead` meets its contract. The loop's invariant: the links counted and those still ahead are all that were ahead. The measure
+-- `chain_ahead::links_ahead` meets its contract. The loop's invariant: the links counted and those still ahead are all that were ahead. The measure
 -- is the advances left. Assumes nothing.
 use native.Mathlib.Omega.{arith}
 use borrow.Author.Needs.{needs}
 use Rattle.definitions.specs.Arena.{arena}
 use Rattle.chain_iterators.specs.Walk.{walkOf}
-use Rattle.chain_drain_items.proofs.Ahead.{ahead-less, Counting, counting-starts, counting-ends, counting-small, counting-goes-on}
-use Rattle.chain_drain_items.proofs.links_ahead.Statement.{statement}
-use Rattle.chain_drain_items.proofs.links_ahead.Tie as tie
+use Rattle.chain_ahead.proofs.Ahead.{ahead-less, Counting, counting-starts, counting-ends, counting-small, counting-goes-on}
+use Rattle.chain_ahead.proofs.links_ahead.Statement.{statement}
+use Rattle.chain_ahead.proofs.links_ahead.Tie as tie
 
 abbrev Inv-loop : tie.InvT-loop
 Inv-loop prev next generation payload header walk₀ links₀ walk links = Counting (arena prev next generation payload header) (walkOf walk₀) (walkOf walk) links

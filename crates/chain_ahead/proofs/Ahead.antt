@@ -1,5 +1,5 @@
 -- The slots that the rest of a walk answers, step by step. Assumes nothing.
-use Prim.Native.Nat.{ℕ, zero, suc, _+_, _*_, _/_, _≤_, _<_}
+use Prim.Native.Nat.{ℕ, zero, suc, _+_, _≤_, _<_}
 use mathlib.Core.Path.{_≡_, refl, sym, ap, _∙_}
 use mathlib.Core.Logic.{_⊎_, inl, inr}
 use mathlib.Core.Bool.{false}
@@ -7,12 +7,12 @@ use mathlib.Core.List.{[], _∷_}
 use native.Mathlib.Omega.{arith}
 use lib.ListN.{length}
 use lib.Dec.{eqb, ltb}
-use borrow.Author.Tests.{eq-eqb, ne-eqb, lt-ltb, le-ltb, ltb-true, ltb-false}
+use borrow.Author.Tests.{eq-eqb, ne-eqb, le-ltb}
 use Rattle.definitions.specs.Arena.{Arena}
 use Rattle.definitions.specs.Walk.{Walk, Stepped, step, walked}
 use Rattle.definitions.proofs.Tests.{by-test}
 use Rattle.walks.proofs.AnyState.{Answered, Ended, answered-or-ended, ended-stays, onward-left}
-use Rattle.chain_drain_items.specs.Items.{slotsAhead}
+use Rattle.chain_ahead.specs.Ahead.{slotsAhead}
 
 -- no walk answers more slots than it makes steps
 walked-short : (a : Arena) (m : ℕ) (w : Walk) → length (walked a m w) ≤ m
@@ -76,13 +76,6 @@ module _ {a : Arena} {w₀ w : Walk} {links : ℕ} (c : Counting a w₀ w links)
     pub counting-small : links + 1 ≤ w₀ .left
     counting-small = let all = c .all in omega (arith, ap length (ahead-some a w r e d), ahead-short a w₀)
 
--- a fifth of the room, rounded down, is less than a number of links exactly if the room is less than five times as many
-pub fifth-less : (room links n : ℕ) → links ≡ n → ltb (room / 5) links ≡ ltb room (5 * n)
-fifth-less room links n same =
-    by-test (ltb (room / 5) links)
-    (λ e. e ∙ sym (lt-ltb room (5 * n) (omega (arith, ltb-true))))
-    (λ e. e ∙ sym (le-ltb room (5 * n) (omega (arith, ltb-false))))
-
 -- where the advances left have room, so do the links
-pub ahead-fits : (a : Arena) (w : Walk) (room : ℕ) → w .left ≤ room / 5 → false ≡ ltb room (5 * length (slotsAhead a w))
-ahead-fits a w room h = sym (le-ltb room (5 * length (slotsAhead a w)) (omega (arith, ahead-short a w)))
+pub ahead-fits : (a : Arena) (w : Walk) (room : ℕ) → w .left ≤ room → false ≡ ltb room (length (slotsAhead a w))
+ahead-fits a w room h = sym (le-ltb room (length (slotsAhead a w)) (omega (arith, ahead-short a w)))

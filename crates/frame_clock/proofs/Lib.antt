@@ -1,0 +1,2 @@
+mod Starts
+mod Windows
