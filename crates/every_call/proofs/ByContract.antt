@@ -1,7 +1,7 @@
 -- What follows for a program of which nothing is known but that it keeps the contract: a refusal has written nothing, what passed the check passes it afterwards, a drain that
--- is done has taken the chain, an insertion that is done has put its link where the kind says, a canonical compression that is done has kept what one compression keeps (the field `one` of demand 3), and each answer of a run is one of seven words. Each is a theorem about the definitions,
+-- is done has taken the chain, an insertion that is done has put its link where the kind says, a canonical compression that is done has kept what one compression keeps (the field `one` of demand 3), what is due is counted and reported, no compression looks at a payload, and each answer of a run is one of seven words. Each is a theorem about the definitions,
 -- carried over by the contract's one equation. Assumes nothing.
-use Prim.Native.Nat.{ℕ, _≤_, _<_, _/_, _%_}
+use Prim.Native.Nat.{ℕ, suc, _≤_, _<_, _/_, _%_}
 use mathlib.Core.Path.{_≡_, sym, ap, subst, _∙_}
 use mathlib.Core.Logic.{_⊎_, inl, inr, _↔_}
 use mathlib.Core.Bool.{Bool}
@@ -10,14 +10,15 @@ use native.Mathlib.Omega.{arith}
 use lib.ListN.{length, take}
 use lib.Dec.{eqb}
 use Rattle.definitions.specs.Columns.{at, written}
-use Rattle.definitions.specs.Arena.{Arena, capacity, capacityLimit, largestGeneration, linkCount, current}
+use Rattle.definitions.specs.Arena.{Arena, capacity, capacityLimit, largestGeneration, stackLength, linkCount, current, linkSlots}
 use Rattle.definitions.specs.Check.{verdict, WellFormed}
 use Rattle.definitions.specs.Reply.{Reply, reply}
 use Rattle.definitions.specs.Read.{Pointer}
 use Rattle.definitions.specs.Walk.{walkFrom}
 use Rattle.definitions.specs.Insert.{InsertKind, nowhere, placeOf, newSlot, kind, kindOf}
 use Rattle.definitions.specs.Run.{Command, commandWords, commandsOf, apply, applied, answersOf}
-use Rattle.definitions.specs.Calls.{Call, Check, Insert, Drain, Run, CompressCanonical, accepted, replyTo, Made, repliesTo, arenaAfter}
+use Rattle.definitions.specs.Clock.{Told, lineOfDot, lineDots}
+use Rattle.definitions.specs.Calls.{Call, Check, DueCount, DueEvents, Insert, Drain, Run, CompressWith, CompressCanonical, accepted, replyTo, Made, repliesTo, arenaAfter}
 use Rattle.definitions.proofs.Tests.{by-test}
 use Rattle.definitions.proofs.Count.{In, in-cases, not-in-nil}
 use Rattle.statements.specs.Chains.{Chain, pieces}
@@ -25,6 +26,7 @@ use Rattle.statements.specs.Demand3.{Accepted, Compressed, OfOne}
 use Rattle.statements.specs.DrainsChain.{DrainsChain}
 use Rattle.statements.specs.InsertPlaces.{Makes, AllThere, InsertPlaces}
 use Rattle.statements.specs.EveryCall.{Unchanged, AnswerWord}
+use Rattle.statements.specs.FrameClock.{LinesPart, CountsDue, ReportsDue, SameButPayloads, IgnoresPayloads}
 use Rattle.well_formed.proofs.WellFormed.{check-passes-exactly-if-well-formed}
 use Rattle.well_formed.proofs.Verdict.{verdict-bound}
 use Rattle.drains.proofs.DrainsChain.{done-drain-takes-the-chain}
@@ -32,6 +34,9 @@ use Rattle.demand3.proofs.Demand3.{demand-3, demand-3-at}
 use Rattle.every_call.proofs.RefusalChangesNothing.{refusal-changes-nothing}
 use Rattle.every_call.proofs.EveryCallKeeps.{every-call-keeps, any-calls-keep, inside-a-run}
 use Rattle.every_call.proofs.RunIsFold.{one-command, reply-of-a-run, callsOf, run-by-calls}
+use Rattle.every_call.proofs.FrameLines.{lines-part-the-frame}
+use Rattle.every_call.proofs.Due.{due-counted, due-in-walk-order}
+use Rattle.every_call.proofs.IgnoresPayloads.{compression-ignores-payloads}
 use Rattle.every_call.proofs.Insertions.{done-insert-places, seventeen-exactly-by-call, full-exactly-by-call}
 
 module _ (limit top : ℕ) (a : Arena) (l : List ℕ) (r : Reply) where
@@ -96,6 +101,39 @@ module _ (limit top : ℕ) (a : Arena) (l : List ℕ) (r : Reply) where
   pub check-by-contract : r ≡ replyTo limit top Check a l → r .number ≤ 11
   unfolding replyTo accepted
   check-by-contract p = subst (λ (s : Reply). s .number ≤ 11) (sym p) (by-test (eqb (verdict limit a) 0) (λ t. rw t (omega arith)) (λ t. rw t (verdict-bound limit a)))
+
+  -- what is due, counted and reported
+  pub due-counted-by-contract : (q : Pointer) (from to : ℕ) → r ≡ replyTo limit top (DueCount q from to) a l → r .number ≡ 0 → CountsDue a (q .slot) from to r
+  due-counted-by-contract q from to p done =
+      subst (λ (s : Reply). CountsDue a (q .slot) from to s) (sym p) (due-counted limit top a q from to l (ap (λ (s : Reply). s .number) (sym p) ∙ done))
+
+  pub due-by-contract : (q : Pointer) (from to : ℕ) → r ≡ replyTo limit top (DueEvents q from to) a l → r .number ≡ 0 → ReportsDue a (q .slot) from to l r
+  due-by-contract q from to p done =
+      subst (λ (s : Reply). ReportsDue a (q .slot) from to l s) (sym p) (due-in-walk-order limit top a q from to l (ap (λ (s : Reply). s .number) (sym p) ∙ done))
+
+-- the lines, of any two functions that answer as the two calls without an arena do
+pub lines-by-contract : (ofDot dotsOf : ℕ → Told) → ((dot : ℕ) → ofDot dot ≡ lineOfDot dot) → ((line : ℕ) → dotsOf line ≡ lineDots line) → LinesPart ofDot dotsOf
+lines-by-contract ofDot dotsOf e f =
+    let p = lines-part-the-frame in
+    record {
+      has-line = λ dot h. let q = p .has-line dot h in (q .0, q .1, e dot ∙ q .2);
+      within = λ dot line first last g h. p .within dot line first last (sym (e dot) ∙ g) (sym (f line) ∙ h);
+      only = λ dot line first last g from to. e dot ∙ p .only dot line first last (sym (f line) ∙ g) from to;
+      begins = f 0 ∙ p .begins;
+      follows = λ line first last h g. f (suc line) ∙ p .follows line first last h (sym (f line) ∙ g);
+      no-dot = λ dot h. e dot ∙ p .no-dot dot h;
+      no-line = λ line h. f line ∙ p .no-line line h;
+    }
+
+-- compressions of two arenas that differ in payloads alone
+module _ (limit top : ℕ) (reset : Bool) {a b : Arena} (h : SameButPayloads a b) (l : List ℕ) {r s : Reply} where
+  pub compress-with-ignores-by-contract :
+      r ≡ replyTo limit top (CompressWith reset) a l → s ≡ replyTo limit top (CompressWith reset) b l → IgnoresPayloads a b (linkSlots (a .generation) (stackLength a)) r s
+  compress-with-ignores-by-contract p q = rw (p, q) (compression-ignores-payloads limit top reset h l .0)
+
+  pub canonical-ignores-by-contract :
+      r ≡ replyTo limit top (CompressCanonical reset) a l → s ≡ replyTo limit top (CompressCanonical reset) b l → IgnoresPayloads a b (take (linkCount a) (r .back)) r s
+  canonical-ignores-by-contract p q = rw (p, q) (compression-ignores-payloads limit top reset h l .1)
 
 -- demand 3 at the port's own limits
 pub demand-3-of-the-port : (a : Arena) (l : List ℕ) (r : Reply) (reset : Bool) → r ≡ replyTo capacityLimit largestGeneration (CompressCanonical reset) a l → Accepted r →

@@ -17,6 +17,7 @@ use Rattle.definitions.specs.Check.{WellFormed, verdict}
 use Rattle.definitions.specs.Reply.{Reply, reply}
 use Rattle.definitions.specs.Read.{getLink, getLinkNoGen, areNeighbors}
 use Rattle.definitions.specs.Walk.{walkStart, walkStep}
+use Rattle.definitions.specs.Clock.{dueCount, dueEvents}
 use Rattle.definitions.specs.Edit.{connect, breakPrev, breakNext, exchangeNext, setGeneration, incGeneration}
 use Rattle.definitions.specs.Remove.{joined, vacated, removed, remove, removedAll, drain, canonicalizeFreelist}
 use Rattle.definitions.specs.Insert.{Place, nowhere, between, placeOf, newSlot, inserted, insertAt, insert, Coded, kind, unknown, kindOf, insertCoded}
@@ -30,6 +31,8 @@ use Rattle.definitions.specs.Calls.{
   AreNeighbors,
   WalkStart,
   WalkStep,
+  DueCount,
+  DueEvents,
   Connect,
   BreakPrev,
   BreakNext,
@@ -141,13 +144,15 @@ module _ (limit top : ℕ) (a : Arena) (ok : WellFormed limit a) where
   -- ---- every call
 
   call-stays : (c : Call) (l : List ℕ) → Stays a (accepted top c a l)
-  unfolding accepted getLink getLinkNoGen areNeighbors walkStart walkStep connect breakPrev breakNext exchangeNext remove drain setGeneration incGeneration run
+  unfolding accepted getLink getLinkNoGen areNeighbors walkStart walkStep dueCount dueEvents connect breakPrev breakNext exchangeNext remove drain setGeneration incGeneration run
   call-stays Check l = search branches
   call-stays (GetLink p) l = search branches
   call-stays (GetLinkNoGen p) l = search branches
   call-stays (AreNeighbors p q) l = search branches
   call-stays (WalkStart p) l = search branches
   call-stays WalkStep l = search branches
+  call-stays (DueCount p from to) l = search branches
+  call-stays (DueEvents p from to) l = search branches
   call-stays (Connect p q) l = search branches depth 8
   call-stays (BreakPrev p) l = search branches depth 8
   call-stays (BreakNext p) l = search branches depth 8

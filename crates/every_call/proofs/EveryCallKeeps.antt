@@ -9,6 +9,7 @@ use Rattle.definitions.specs.Arena.{Arena}
 use Rattle.definitions.specs.Check.{verdict, WellFormed}
 use Rattle.definitions.specs.Read.{getLink, getLinkNoGen, areNeighbors}
 use Rattle.definitions.specs.Walk.{walkStart, walkStep}
+use Rattle.definitions.specs.Clock.{dueCount, dueEvents}
 use Rattle.definitions.specs.Insert.{kindOf}
 use Rattle.definitions.specs.Run.{Command, applied}
 use Rattle.definitions.specs.Calls.{
@@ -19,6 +20,8 @@ use Rattle.definitions.specs.Calls.{
   AreNeighbors,
   WalkStart,
   WalkStep,
+  DueCount,
+  DueEvents,
   Connect,
   BreakPrev,
   BreakNext,
@@ -50,13 +53,15 @@ use Rattle.demand3.proofs.Kept.{compressCanonical-keeps}
 
 module _ (limit top : ℕ) where
   call-keeps : (c : Call) (a : Arena) (l : List ℕ) → WellFormed limit a → WellFormed limit (accepted top c a l .arena)
-  unfolding accepted getLink getLinkNoGen areNeighbors walkStart walkStep
+  unfolding accepted getLink getLinkNoGen areNeighbors walkStart walkStep dueCount dueEvents
   call-keeps Check a l ok = ok
   call-keeps (GetLink p) a l ok = search either-keeps
   call-keeps (GetLinkNoGen p) a l ok = search either-keeps
   call-keeps (AreNeighbors p q) a l ok = ok
   call-keeps (WalkStart p) a l ok = search either-keeps
   call-keeps WalkStep a l ok = ok
+  call-keeps (DueCount p from to) a l ok = search either-keeps
+  call-keeps (DueEvents p from to) a l ok = search either-keeps
   call-keeps (Connect p q) a l ok = connect-keeps limit a ok p q l
   call-keeps (BreakPrev p) a l ok = breakPrev-keeps limit a ok p l
   call-keeps (BreakNext p) a l ok = breakNext-keeps limit a ok p l

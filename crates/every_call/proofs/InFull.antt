@@ -7,9 +7,9 @@ use mathlib.Core.Bool.{Bool, true, false}
 use mathlib.Core.List.{List, [], _∷_, _++_, map, reverse}
 use native.Mathlib.Omega.{arith}
 use lib.ListN.{length, replicate, take, getD}
-use lib.Dec.{eqb}
+use lib.Dec.{eqb, ltb}
 use borrow.Author.Tests.{eq-eqb, ne-eqb, eqb-true}
-use Rattle.definitions.specs.Columns.{at, count, written, settled}
+use Rattle.definitions.specs.Columns.{at, count, keep, written, settled}
 use Rattle.definitions.specs.Arena.{Arena, arena, capacity, stackLength, linkCount, current, linkSlots, isLink}
 use Rattle.definitions.specs.Check.{verdict, FailsAt, brokenSlot, brokenSide, Freelist, WellFormed, SameRead}
 use Rattle.definitions.specs.Reply.{Reply, reply}
@@ -19,7 +19,8 @@ use Rattle.definitions.specs.Remove.{drain}
 use Rattle.definitions.specs.Insert.{InsertKind, nowhere, placeOf, newSlot, insert, kind, unknown, kindOf}
 use Rattle.definitions.specs.Run.{Command, commandsOf, apply, applied, answersOf}
 use Rattle.definitions.specs.Compress.{compressGeneration, relocate, compressWith, laidOut, canonicalArena, compressCanonical}
-use Rattle.definitions.specs.Calls.{Call, Made, Check, WalkStart, WalkStep, Insert, Drain, Run, CompressWith, CompressCanonical, accepted, replyTo, callOf, repliesTo, arenaAfter}
+use Rattle.definitions.specs.Clock.{Told, lineOfDot, lineDots, dueSlots}
+use Rattle.definitions.specs.Calls.{Call, Made, Check, WalkStart, WalkStep, DueCount, DueEvents, Insert, Drain, Run, CompressWith, CompressCanonical, accepted, replyTo, callOf, repliesTo, arenaAfter}
 use Rattle.definitions.proofs.Tests.{by-test, not-eq}
 use Rattle.statements.specs.Chains.{IsOpen, IsClosed, Chain, Alike, Listing, OnOneChain, Renaming, pieces, replaced, Paired, HoldTheSame}
 use Rattle.statements.specs.Demand3.{Agree, Further, made, Compressed, OfOne, Unmoved, Demand3}
@@ -29,6 +30,7 @@ use Rattle.statements.specs.DrainsChain.{DrainsChain}
 use Rattle.statements.specs.InsertPlaces.{Makes, AllThere, InsertPlaces}
 use Rattle.statements.specs.BrokenSlot.{LowestBroken, NamesLowest}
 use Rattle.statements.specs.EveryCall.{Unchanged, AnswerWord, OneCommand}
+use Rattle.statements.specs.FrameClock.{LinesPart, CountsDue, ReportsDue, WindowsPart, ChainParted, SameButPayloads, IgnoresPayloads}
 use Rattle.well_formed.proofs.WellFormed.{check-passes-exactly-if-well-formed}
 use Rattle.well_formed.proofs.ReadsOnly.{verdict-reads-only, broken-reads-only, payloads-are-not-read}
 use Rattle.well_formed.proofs.Verdict.{eleven-fails, verdict-bound}
@@ -58,8 +60,11 @@ use Rattle.every_call.proofs.EveryCallKeeps.{every-call-keeps, any-call
 use Rattle.every_call.proofs.CapacityStays.{capacity-stays, capacity-after-calls}
 use Rattle.every_call.proofs.RunIsFold.{reply-of-a-run, command-by-call, run-by-calls, one-command}
 use Rattle.every_call.proofs.Insertions.{insert-by-call, no-such-kind, sixteen-exactly, seventeen-exactly-by-call, full-exactly-by-call, done-insert-places, insertion-answers, grown-from-empty}
+use Rattle.every_call.proofs.FrameLines.{lines-part-the-frame}
+use Rattle.every_call.proofs.Due.{due-counted, due-in-walk-order, nineteen-exactly, fourteen-exactly, windows-part, windows-part-a-chain, counts-add-up}
+use Rattle.every_call.proofs.IgnoresPayloads.{compression-ignores-payloads}
 use Rattle.every_call.proofs.ContractDetermines.{contract-determines, contract-can-be-kept, programs-agree}
-use Rattle.every_call.proofs.ByContract.{refusal-by-contract, kept-by-contract, drain-by-contract, insert-by-contract, seventeen-by-contract, full-by-contract, demand-3-by-contract, demand-3-of-the-port, run-by-contract, run-calls-by-contract, check-by-contract, well-formed-after-calls, well-formed-after-commands, answers-are-words}
+use Rattle.every_call.proofs.ByContract.{due-counted-by-contract, due-by-contract, lines-by-contract, compress-with-ignores-by-contract, canonical-ignores-by-contract, refusal-by-contract, kept-by-contract, drain-by-contract, insert-by-contract, seventeen-by-contract, full-by-contract, demand-3-by-contract, demand-3-of-the-port, run-by-contract, run-calls-by-contract, check-by-contract, well-formed-after-calls, well-formed-after-commands, answers-are-words}
 
 -- ---- the check
 
@@ -313,6 +318,49 @@ pub grown-from-empty-in-full : (limit top c g : ℕ) (ps ns gs vs : List ℕ) �
     × ((fs : List Further) → Unmoved limit top (r .arena) (map made fs) (linkCount a)))
 grown-from-empty-in-full = grown-from-empty
 
+-- ---- the frame clock
+
+pub lines-part-the-frame-in-full : LinesPart lineOfDot lineDots
+lines-part-the-frame-in-full = lines-part-the-frame
+
+-- of any two functions that answer as the calls do
+pub lines-by-contract-in-full : (ofDot dotsOf : ℕ → Told) → ((dot : ℕ) → ofDot dot ≡ lineOfDot dot) → ((line : ℕ) → dotsOf line ≡ lineDots line) → LinesPart ofDot dotsOf
+lines-by-contract-in-full = lines-by-contract
+
+module _ (limit top : ℕ) (a : Arena) (p : Pointer) (from to : ℕ) where
+  pub due-counted-in-full : (l : List ℕ) → replyTo limit top (DueCount p from to) a l .number ≡ 0 → CountsDue a (p .slot) from to (replyTo limit top (DueCount p from to) a l)
+  due-counted-in-full = due-counted limit top a p from to
+
+  pub due-in-walk-order-in-full : (report : List ℕ) → replyTo limit top (DueEvents p from to) a report .number ≡ 0
+      → ReportsDue a (p .slot) from to report (replyTo limit top (DueEvents p from to) a report)
+  due-in-walk-order-in-full = due-in-walk-order limit top a p from to
+
+  -- the refusals of a good pointer in an arena that passes the check
+  pub nineteen-exactly-in-full : verdict limit a ≡ 0 → stale a p ≡ false → (l report : List ℕ) →
+      ((replyTo limit top (DueCount p from to) a l .number ≡ 19) ↔ ((89342 ≤ from) ⊎ (89342 < to)))
+      × ((replyTo limit top (DueEvents p from to) a report .number ≡ 19) ↔ ((89342 ≤ from) ⊎ (89342 < to)))
+  nineteen-exactly-in-full = nineteen-exactly limit top a p from to
+
+  pub fourteen-exactly-in-full : verdict limit a ≡ 0 → stale a p ≡ false → from < 89342 → to ≤ 89342 → (report : List ℕ)
+      → (replyTo limit top (DueEvents p from to) a report .number ≡ 14) ↔ (length report < length (walkFrom a (p .slot)))
+  fourteen-exactly-in-full = fourteen-exactly limit top a p from to
+
+module _ {f t : ℕ} (other : f ≡ t → ⊥) where
+  pub windows-part-in-full : WindowsPart f t
+  windows-part-in-full = windows-part other
+
+  pub windows-part-a-chain-in-full : (a : Arena) (o : ℕ) → ChainParted a (walkFrom a o) (dueSlots a o f t) (dueSlots a o t f)
+  windows-part-a-chain-in-full = windows-part-a-chain other
+
+  pub counts-add-up-in-full : (a : Arena) (o : ℕ) → length (dueSlots a o f t) + length (dueSlots a o t f) ≡ length (keep (λ s. ltb (at (a .payload) s) 89342) (walkFrom a o))
+  counts-add-up-in-full = counts-add-up other
+
+-- neither compression looks at a payload: they go with their links, in slot order or as the where-from column tells
+pub compression-ignores-payloads-in-full : (limit top : ℕ) (reset : Bool) (a b : Arena) → SameButPayloads a b → (l : List ℕ) →
+    IgnoresPayloads a b (linkSlots (a .generation) (stackLength a)) (replyTo limit top (CompressWith reset) a l) (replyTo limit top (CompressWith reset) b l)
+    × IgnoresPayloads a b (take (linkCount a) (replyTo limit top (CompressCanonical reset) a l .back)) (replyTo limit top (CompressCanonical reset) a l) (replyTo limit top (CompressCanonical reset) b l)
+compression-ignores-payloads-in-full limit top reset a b h l = compression-ignores-payloads limit top reset h l
+
 -- ---- compressions
 
 -- an order w of the links of a: each once, and nothing else
@@ -453,6 +501,20 @@ module _ (limit top : ℕ) (a : Arena) (l : List ℕ) (r : Reply) where
 
   pub check-by-contract-in-full : r ≡ replyTo limit top Check a l → r .number ≤ 11
   check-by-contract-in-full = check-by-contract limit top a l r
+
+  pub due-counted-by-contract-in-full : (q : Pointer) (from to : ℕ) → r ≡ replyTo limit top (DueCount q from to) a l → r .number ≡ 0 → CountsDue a (q .slot) from to r
+  due-counted-by-contract-in-full = due-counted-by-contract limit top a l r
+
+  pub due-by-contract-in-full : (q : Pointer) (from to : ℕ) → r ≡ replyTo limit top (DueEvents q from to) a l → r .number ≡ 0 → ReportsDue a (q .slot) from to l r
+  due-by-contract-in-full = due-by-contract limit top a l r
+
+  pub compress-with-ignores-by-contract-in-full : (reset : Bool) (b : Arena) → SameButPayloads a b → (s : Reply) → r ≡ replyTo limit top (CompressWith reset) a l → s ≡ replyTo limit top (CompressWith reset) b l
+      → IgnoresPayloads a b (linkSlots (a .generation) (stackLength a)) r s
+  compress-with-ignores-by-contract-in-full reset b h s p q = compress-with-ignores-by-contract limit top reset h l p q
+
+  pub canonical-ignores-by-contract-in-full : (reset : Bool) (b : Arena) → SameButPayloads a b → (s : Reply) → r ≡ replyTo limit top (CompressCanonical reset) a l → s ≡ replyTo limit top (CompressCanonical reset) b l
+      → IgnoresPayloads a b (take (linkCount a) (r .back)) r s
+  canonical-ignores-by-contract-in-full reset b h s p q = canonical-ignores-by-contract limit top reset h l p q
 
 pub demand-3-of-the-port-in-full : (a : Arena) (l : List ℕ) (r : Reply) (reset : Bool) → r ≡ replyTo 65535 4294967295 (CompressCanonical reset) a l → (r .number ≡ 0) ⊎ (r .number ≡ 100) →
     OfOne 65535 4294967295 a (r .arena) (take (linkCount a) (r .back)) (linkCount a) (pieces (at (r .arena .next)) (linkCount a))

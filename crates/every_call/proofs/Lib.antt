@@ -5,6 +5,9 @@ pub mod EveryCallKeeps
 pub mod CapacityStays
 pub mod RunIsFold
 pub mod Insertions
+pub mod FrameLines
+pub mod Due
+pub mod IgnoresPayloads
 pub mod ContractDetermines
 pub mod ByContract
 pub mod InFull

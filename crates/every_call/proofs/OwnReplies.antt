@@ -8,6 +8,7 @@ use Rattle.definitions.specs.Arena.{Arena}
 use Rattle.definitions.specs.Reply.{Reply, reply, refusal}
 use Rattle.definitions.specs.Read.{getLink, getLinkNoGen, areNeighbors}
 use Rattle.definitions.specs.Walk.{walkStart, walkStep}
+use Rattle.definitions.specs.Clock.{dueCount, dueEvents}
 use Rattle.definitions.specs.Edit.{connect, breakPrev, breakNext, exchangeNext, doneNumber, setGeneration, incGeneration}
 use Rattle.definitions.specs.Remove.{remove, drain, canonicalizeFreelist}
 use Rattle.definitions.specs.Insert.{Place, nowhere, between, placeOf, newSlot, insertAt, insert, Coded, kind, unknown, kindOf, insertCoded}
@@ -21,6 +22,8 @@ use Rattle.definitions.specs.Calls.{
   AreNeighbors,
   WalkStart,
   WalkStep,
+  DueCount,
+  DueEvents,
   Connect,
   BreakPrev,
   BreakNext,
@@ -67,13 +70,15 @@ module _ (a : Arena) (l : List ℕ) where
   ruleset branches = (either, refused, lit<, plainly, done, raised, inserted)
 
   pub own-reply : (top : ℕ) (c : Call) → Own a l (accepted top c a l)
-  unfolding accepted getLink getLinkNoGen areNeighbors walkStart walkStep connect breakPrev breakNext exchangeNext remove drain setGeneration incGeneration canonicalizeFreelist run compressNumber compressWith compressCanonical
+  unfolding accepted getLink getLinkNoGen areNeighbors walkStart walkStep dueCount dueEvents connect breakPrev breakNext exchangeNext remove drain setGeneration incGeneration canonicalizeFreelist run compressNumber compressWith compressCanonical
   own-reply top Check = search branches depth 12
   own-reply top (GetLink p) = search branches depth 12
   own-reply top (GetLinkNoGen p) = search branches depth 12
   own-reply top (AreNeighbors p q) = search branches depth 12
   own-reply top (WalkStart p) = search branches depth 12
   own-reply top WalkStep = search branches depth 12
+  own-reply top (DueCount p from to) = search branches depth 12
+  own-reply top (DueEvents p from to) = search branches depth 12
   own-reply top (Connect p q) = search branches depth 12
   own-reply top (BreakPrev p) = search branches depth 12
   own-reply top (BreakNext p) = search branches depth 12
