@@ -1,4 +1,4 @@
-// The levels that are sold. build.rs and the tests read this list.
+// The levels that are sold. build.rs and the tests read these lists.
 
 /// A level: its archive, which is made from the crates of exports whose names begin with its own, and the names that it exports.
 pub struct Level {
@@ -19,6 +19,10 @@ pub const LEVELS: &[Level] = &[
             "chain_arena_are_neighbors",
             "chain_arena_walk_start",
             "chain_arena_walk_step",
+            "chain_arena_line_of_dot",
+            "chain_arena_line_dots",
+            "chain_arena_due_count",
+            "chain_arena_due_events",
         ],
     },
     Level {
@@ -39,3 +43,6 @@ pub const LEVELS: &[Level] = &[
     },
     Level { name: "level_three", exports: &["chain_arena_compress_with", "chain_arena_compress_canonical"] },
 ];
+
+/// The exports that take no arena: they check none, and their results begin with the number alone.
+pub const WITHOUT_ARENA: &[&str] = &["chain_arena_line_of_dot", "chain_arena_line_dots"];

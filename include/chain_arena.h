@@ -14,17 +14,17 @@
  * also where the count is 0. Slices of one call must not overlap where the call writes to one of them. Nothing is asked of
  * the words: every call ends and answers on any columns, any header and any arguments.
  *
- * Every result begins with three words (Replies):
+ * Every result begins with its number, and that of a call on an arena with two words more (Replies):
  *   number   0: done; 100: done, and the generation overflowed; any other: refused, and why
  *   broken   with number 11 the lowest slot at which rule 11 fails, else 0
  *   side     with number 11 where it fails there, CHAIN_ARENA_SIDE_..: 1 at the prev, 2 at the next alone (with 1 the next
  *            may be wrong too); else 0
- * Every call begins with the check, which goes over the whole stack, and gives its refusal, 1 to 11. A refused call has
- * written nothing, and the further words of its result are 0; only a step answers its state, as it got it.
+ * Every call on an arena begins with the check, which goes over the whole stack, and gives its refusal, 1 to 11. A refused
+ * call has written nothing, and the further words of its result are 0; only a step answers its state, as it got it.
  *
  * The numbers (Numbers). A constant CHAIN_ARENA_REFUSED_.. stands below for each refusal, CHAIN_ARENA_DONE for 0 and
  * CHAIN_ARENA_OVERFLOWED for 100.
- *  number  name                  of every call:
+ *  number  name                  of every call, and from 1 on of every call on an arena:
  *       0  DONE                  nothing is wrong: done
  *       1  SHAPE                 two columns differ in length or are longer than 65,535, or the header has not four words
  *       2  CURRENT_GENERATION    the current generation is 0 or 1
@@ -39,13 +39,13 @@
  *      11  BROKEN_LINK           a link names a neighbour that is above the stack or free, or does not name it in turn
  *  number  name                  of some calls, which are named below the meaning:
  *      12  STALE_POINTER         a pointer is stale: in its slot there is no link, or one of another generation
- *                                  get_link, get_link_no_gen, walk_start, connect, break_prev, break_next, exchange_next,
- *                                  remove, drain; in the answers of run
+ *                                  get_link, get_link_no_gen, walk_start, due_count, due_events, connect, break_prev,
+ *                                  break_next, exchange_next, remove, drain; in the answers of run
  *      13  NEIGHBOR              a neighbour is in the way, or one is missing
  *                                  connect, break_prev, break_next, exchange_next; in the answers of run
  *      14  SLICE_LENGTH          the slice to be filled is too short, or the where-from column has not the columns'
  *                                length
- *                                  drain, run, compress_with, compress_canonical
+ *                                  due_events, drain, run, compress_with, compress_canonical
  *      15  GENERATION_TOO_LOW    generation 0 or 1 was to be set
  *                                  set_generation
  *      16  COMMAND               the command words are no whole commands, or a code or a kind of insertion is unknown
@@ -54,6 +54,8 @@
  *                                  insert; in the answers of run
  *      18  NOT_WITHIN_CAPACITY   there is no room for a link: every slot of the columns holds one
  *                                  insert; in the answers of run
+ *      19  OUT_OF_FRAME          out of the frame: a dot is over 89,341, a window's end over 89,342, or a line over 261
+ *                                  line_of_dot, line_dots, due_count, due_events
  *     100  OVERFLOWED            nothing is wrong: done, and the current generation overflowed
  *                                  remove, inc_generation, compress_with, compress_canonical; in the answers of run
  */
@@ -83,11 +85,20 @@
 #define CHAIN_ARENA_REFUSED_COMMAND              16u
 #define CHAIN_ARENA_REFUSED_LINK_REQUIREMENT     17u
 #define CHAIN_ARENA_REFUSED_NOT_WITHIN_CAPACITY  18u
+#define CHAIN_ARENA_REFUSED_OUT_OF_FRAME         19u
 #define CHAIN_ARENA_OVERFLOWED                   100u
 
 /* The sides of a link, as the word side has them. */
 #define CHAIN_ARENA_SIDE_PREV 1u
 #define CHAIN_ARENA_SIDE_NEXT 2u
+
+/* The frame: how many lines it has, how many dots each of them has, and how many dots that makes. Lines and dots are counted
+ * from 0. A payload is due in a window if it is a dot of the frame, not before the window's start and before its end, which
+ * may be CHAIN_ARENA_FRAME_DOTS. An end before the start makes a window that crosses the end of the frame; equal ends make
+ * an empty one. (Frame clock) */
+#define CHAIN_ARENA_FRAME_LINES 262u
+#define CHAIN_ARENA_FRAME_LINE_DOTS 341u
+#define CHAIN_ARENA_FRAME_DOTS 89342u
 
 /* How many words the header, a command, the item of a drain and the item of an order-preserving compression have. */
 #define CHAIN_ARENA_HEADER_WORDS 4u
@@ -212,6 +223,27 @@ typedef struct chain_arena_insert_result {
     uint32_t generation;
 } chain_arena_insert_result;
 
+/* The line of a dot. */
+typedef struct chain_arena_line_result {
+    uint32_t number;
+    uint32_t line;
+} chain_arena_line_result;
+
+/* The first and the last dot of a line. */
+typedef struct chain_arena_line_dots_result {
+    uint32_t number;
+    uint32_t first;
+    uint32_t last;
+} chain_arena_line_dots_result;
+
+/* How many links of a chain are due. */
+typedef struct chain_arena_due_result {
+    uint32_t number;
+    uint32_t broken;
+    uint32_t side;
+    uint32_t count;
+} chain_arena_due_result;
+
 /* Level One: liblevel_one.a */
 
 /* Whether the arena can be worked with: 0, else the first rule that fails, 1 to 11. (Check) */
@@ -267,6 +299,36 @@ chain_arena_step_result chain_arena_walk_step(
     const uint32_t *payload, size_t payload_len,
     const uint32_t *header, size_t header_len,
     uint32_t start, uint32_t position, uint32_t direction, uint32_t left);
+
+/* The line of a dot of the frame. 19: the frame has no such dot. (Frame clock) */
+chain_arena_line_result chain_arena_line_of_dot(
+    uint32_t dot);
+
+/* The first and the last dot of a line of the frame. 19: the frame has no such line. (Frame clock) */
+chain_arena_line_dots_result chain_arena_line_dots(
+    uint32_t line);
+
+/* How many links of p's chain are due in the window from a dot up to, but not including, another one or the end of the frame.
+ * 12: p is stale; 19: the frame has no such window. (Frame clock) */
+chain_arena_due_result chain_arena_due_count(
+    const uint16_t *prev, size_t prev_len,
+    const uint16_t *next, size_t next_len,
+    const uint32_t *generation, size_t generation_len,
+    const uint32_t *payload, size_t payload_len,
+    const uint32_t *header, size_t header_len,
+    uint16_t p_slot, uint32_t p_generation, uint32_t from, uint32_t to);
+
+/* Writes the slots of those links into the report, in the order of a walk from p, and answers how many they are. 12: p is
+ * stale; 19: the frame has no such window; 14: the report has fewer words than the chain has links, due or not.
+ * (Frame clock) */
+chain_arena_due_result chain_arena_due_events(
+    const uint16_t *prev, size_t prev_len,
+    const uint16_t *next, size_t next_len,
+    const uint32_t *generation, size_t generation_len,
+    const uint32_t *payload, size_t payload_len,
+    const uint32_t *header, size_t header_len,
+    uint16_t p_slot, uint32_t p_generation, uint32_t from, uint32_t to,
+    uint16_t *report, size_t report_len);
 
 /* Level Two: liblevel_two.a */
 

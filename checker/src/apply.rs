@@ -10,11 +10,12 @@ use chain_arena::{Command, Done, OwnedArena, Ptr, Refusal};
 
 use crate::Shown;
 use crate::by_slot::BySlot;
-use crate::commands::{Commands, Given, written};
+use crate::commands::{Commands, Given};
 use crate::files::Source;
 use crate::format;
 use crate::judged::{Judged, OVERFLOWED, header, off_stack};
 use crate::panel::Panel;
+use crate::pointer::written;
 use crate::refused::why;
 use crate::wording::counted;
 

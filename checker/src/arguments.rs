@@ -2,6 +2,8 @@
 
 use std::ffi::{OsStr, OsString};
 
+use chain_arena::Ptr;
+
 use crate::files::{Source, Target};
 use crate::quote::{listed, quoted};
 
@@ -30,6 +32,7 @@ pub enum Command {
     Compare(Source, Source),
     /// An arena, and the commands that are applied to it
     Apply(Source, Source),
+    Due(Source, When),
     Samples,
 }
 
@@ -37,7 +40,7 @@ impl Command {
     /// What is read.
     pub fn sources(&self) -> Vec<&Source> {
         match self {
-            Self::Check(file) | Self::Compress(file, _) => vec![file],
+            Self::Check(file) | Self::Compress(file, _) | Self::Due(file, _) => vec![file],
             Self::Compare(a, b) | Self::Apply(a, b) => vec![a, b],
             Self::Samples => Vec::new(),
         }
@@ -51,6 +54,15 @@ pub struct How {
     pub reset: bool,
     /// Whether the links stay in the order of their slots; else the compression is canonical
     pub order_preserving: bool,
+}
+
+/// Of which chain, and in which window of the frame, it is asked what is due: the link that the walk begins with, and the
+/// window's ends as they are given.
+#[derive(Clone, Copy, Debug, PartialEq, Eq)]
+pub struct When {
+    pub p: Ptr,
+    pub from: u32,
+    pub to: u32,
 }
 
 /// The options that stand alone or with a value, besides those that name a file to write. With each, the commands it goes
@@ -137,13 +149,14 @@ impl Given {
 
     /// The command with its files.
     fn command(&self) -> Result<Command, String> {
-        let Some((name, files)) = self.names.split_first() else { return Ok(Command::Samples) };
-        let files: Vec<Source> = files.iter().map(source).collect();
+        let Some((name, words)) = self.names.split_first() else { return Ok(Command::Samples) };
+        let files: Vec<Source> = words.iter().map(source).collect();
         match name.to_str() {
             Some("check") => exactly("check", files).map(|[file]| Command::Check(file)),
             Some("compress") => exactly("compress", files).map(|[file]| Command::Compress(file, self.how())),
             Some("compare") => two("compare", files).map(|[a, b]| Command::Compare(a, b)),
             Some("apply") => two("apply", files).map(|[file, commands]| Command::Apply(file, commands)),
+            Some("due") => due(words),
             _ => Err(format!("unknown command {}", quoted(&name.to_string_lossy()))),
         }
     }
@@ -201,6 +214,33 @@ fn slot(word: &OsStr) -> Result<u32, String> {
     let slot =
         number.and_then(|word| word.parse().ok()).filter(|slot| (1..=u32::from(u16::MAX)).contains(slot));
     slot.ok_or_else(|| format!("{}, found {}", needs(AROUND), quoted(&word.to_string_lossy())))
+}
+
+/// A file, the link that a walk begins with, and the ends of a window.
+fn due(words: &[OsString]) -> Result<Command, String> {
+    let needs = "`due` needs a file, SLOT, GENERATION, FROM and TO, but";
+    let [file, slot, generation, from, to] = words else {
+        return Err(match words.len() {
+            0 => format!("{needs} none is given"),
+            1 => format!("{needs} only one is given"),
+            count @ 2..5 => format!("{needs} only {count} are given"),
+            count => format!("{needs} {count} are given"),
+        });
+    };
+    let p = Ptr {
+        slot: number("SLOT", slot, u16::MAX)?,
+        generation: number("GENERATION", generation, u32::MAX)?,
+    };
+    let when = When { p, from: number("FROM", from, u32::MAX)?, to: number("TO", to, u32::MAX)? };
+    Ok(Command::Due(source(file), when))
+}
+
+/// The number of a word that has a name, at most so large.
+fn number<T: std::str::FromStr + std::fmt::Display>(name: &str, word: &OsStr, most: T) -> Result<T, String> {
+    let digits = word.to_str().filter(|word| word.bytes().all(|byte| byte.is_ascii_digit()));
+    digits.and_then(|word| word.parse().ok()).ok_or_else(|| {
+        format!("`due` needs {name}, a number from 0 to {most}, found {}", quoted(&word.to_string_lossy()))
+    })
 }
 
 /// The file to write that is named by a word.
@@ -270,6 +310,15 @@ mod tests {
         assert_eq!(job(&["apply", "a", "-"]).command, Command::Apply(file("a"), Source::StandardInput));
         assert_eq!(job(&["check", "--", "--svg"]).command, Command::Check(file("--svg")));
         assert_eq!(job(&["--", "check", "--"]).command, Command::Check(file("--")));
+        let when = |slot, generation, from, to| When { p: Ptr { slot, generation }, from, to };
+        assert_eq!(job(&["due", "f", "1", "2", "3", "4"]).command, Command::Due(file("f"), when(1, 2, 3, 4)));
+        let most = Command::Due(Source::StandardInput, when(65_535, u32::MAX, u32::MAX, u32::MAX));
+        assert_eq!(job(&["due", "-", "65535", "4294967295", "4294967295", "4294967295"]).command, most);
+        assert_eq!(
+            job(&["due", "7", "007", "0", "0", "0"]).command,
+            Command::Due(file("7"), when(7, 0, 0, 0))
+        );
+        assert_eq!(job(&["due", "f", "1", "2", "3", "4"]).command.sources(), [&file("f")]);
     }
 
     #[test]
@@ -336,6 +385,29 @@ mod tests {
             (&["apply", "a", "b", "c"], "`apply` needs two files, but 3 are given"),
             (&["apply", "-", "-"], "`apply - -`: standard input can be read only once"),
             (&["apply", "a", "b", "--reset"], "`--reset` goes with `compress` only"),
+            (&["due"], "`due` needs a file, SLOT, GENERATION, FROM and TO, but none is given"),
+            (&["due", "f"], "`due` needs a file, SLOT, GENERATION, FROM and TO, but only one is given"),
+            (&["due", "f", "1"], "`due` needs a file, SLOT, GENERATION, FROM and TO, but only 2 are given"),
+            (
+                &["due", "f", "1", "2", "3", "4", "5"],
+                "`due` needs a file, SLOT, GENERATION, FROM and TO, but 6 are given",
+            ),
+            (
+                &["due", "f", "65536", "x", "3", "4"],
+                "`due` needs SLOT, a number from 0 to 65535, found `65536`",
+            ),
+            (
+                &["due", "f", "1", "4294967296", "3", "4"],
+                "`due` needs GENERATION, a number from 0 to 4294967295, found `4294967296`",
+            ),
+            (&["due", "f", "1", "2", "", "4"], "`due` needs FROM, a number from 0 to 4294967295, found ``"),
+            (&["due", "f", "1", "2", "3", "+4"], "`due` needs TO, a number from 0 to 4294967295, found `+4`"),
+            (&["due", "f", "1", "2", "3", "-4"], "unknown option `-4`"),
+            (
+                &["due", "f", "1", "2", "3", "4", "--around", "1"],
+                "`--around` goes with `check`, `compress` and `apply` only",
+            ),
+            (&["due", "f", "1", "2", "3", "4", "--reset"], "`--reset` goes with `compress` only"),
             (
                 &["compare", "a", "b", "--around", "1"],
                 "`--around` goes with `check`, `compress` and `apply` only",

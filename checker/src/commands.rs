@@ -34,11 +34,6 @@ impl Commands {
     }
 }
 
-/// A pointer as it is written.
-pub fn written(p: Ptr) -> String {
-    format!("{}:{}", p.slot, p.generation)
-}
-
 /// The commands of a file's bytes.
 fn parse(bytes: &[u8]) -> Result<Vec<Given>, ParseError> {
     lines::lines(lines::text(bytes)?).map(given).collect()

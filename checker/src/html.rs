@@ -6,8 +6,10 @@
 
 use std::collections::BTreeMap;
 
+use chain_arena::OwnedArena;
+
 use crate::by_slot::BySlot;
-use crate::panel::{Fault, Panel};
+use crate::panel::{Due, Fault, Panel};
 use crate::picture::{Kind, Picture, Row};
 use crate::wording::{counted, escaped, visible};
 
@@ -26,8 +28,9 @@ const SCRIPT: &str = concat!(
     include_str!("page/search.js")
 );
 
-/// How many faults are listed where there is no script; with one, all are.
+/// How many faults are listed where there is no script; with one, all are. And how many links that are due are listed.
 const STATIC_FAULTS: usize = 1000;
+const LISTED_DUE: usize = 1000;
 /// How many of the header's further words are shown, and how many generations beside the current one.
 const LISTED: usize = 8;
 
@@ -71,12 +74,13 @@ impl<'p> PanelPage<'p> {
         let words = facts("header", &self.words());
         let counts = facts("counts", &self.counts());
         let generations = self.other_generations(number);
+        let due = due_list(number, &self.panel.due, &self.panel.arena);
         let name = self.name_of_faults();
         let faults = static_faults(name, &self.panel.faults);
         format!(
             r#"<section class="panel" id="panel-{number}" aria-labelledby="title-{number}">
 <h2 id="title-{number}">{title}</h2>
-{verdict}{told}{words}{counts}{generations}{faults}<div class="live" hidden>
+{verdict}{told}{words}{counts}{generations}{due}{faults}<div class="live" hidden>
 <div class="faults" role="listbox" tabindex="0" aria-label="{name} of {title}"></div>
 <div class="card" role="group" aria-live="polite" aria-label="Chosen slot of {title}"></div>
 <nav aria-label="Parts of {title}"></nav>
@@ -158,6 +162,9 @@ impl<'p> PanelPage<'p> {
             format!(r#""kinds":{}"#, column(rows.iter().map(kind_and_flags))),
             format!(r#""lengths":{}"#, column(rows.iter().map(|row| row.slots.len() as u32))),
             format!(r#""order":{}"#, column(rows.iter().flat_map(|row| row.slots.iter().copied()))),
+            format!(r#""due":{}"#, column(panel.due.iter().map(|due| due.slot))),
+            format!(r#""dueLines":{}"#, column(panel.due.iter().map(|due| due.line))),
+            format!(r#""duePlaces":{}"#, column(panel.due.iter().map(|due| due.place))),
             format!(r#""faults":{}"#, column(panel.faults.iter().map(|fault| fault.slot))),
             format!(r#""sentences":[{}]}}"#, sentences.join(",\n")),
         ]
@@ -210,6 +217,27 @@ fn static_faults(name: &str, faults: &[Fault]) -> String {
     format!("<h3>{name}: {count}</h3>\n<noscript><ul class=\"static\">\n{each}</ul>\n{more}</noscript>\n")
 }
 
+/// The links that are due, in the order of the walk, each with a way to its slot; nothing if none is.
+fn due_list(number: usize, due: &[Due], arena: &OwnedArena) -> String {
+    if due.is_empty() {
+        return String::new();
+    }
+    let item = |&Due { slot, line, place }: &Due| {
+        let payload = arena.payload(slot).unwrap_or(0);
+        let way = format!(r##"<a href="#panel={number}&amp;slot={slot}">slot {slot}</a>"##);
+        format!("<li>{way}: line {line}, place {place}, payload {payload}</li>\n")
+    };
+    let each: String = due.iter().take(LISTED_DUE).map(item).collect();
+    let more = match due.len().saturating_sub(LISTED_DUE) {
+        0 => String::new(),
+        more => format!("<p>and {more} more</p>\n"),
+    };
+    let count = due.len();
+    format!(
+        "<details class=\"due-list\" open>\n<summary><i class=\"sample\" aria-hidden=\"true\"></i>Due, in the order of the walk: {count}</summary>\n<ol>\n{each}</ol>\n{more}</details>\n"
+    )
+}
+
 /// A text from outside, as a string of the data. No `<` stands in it, so that it cannot end the data.
 fn json_string(text: &str) -> String {
     let mut string = String::with_capacity(text.len() + 2);
@@ -254,7 +282,6 @@ fn base64(bytes: &[u8]) -> String {
 #[cfg(test)]
 mod tests {
     use super::*;
-    use chain_arena::OwnedArena;
 
     /// A panel of an arena, with a title.
     fn panel(title: &str, arena: OwnedArena) -> Panel {

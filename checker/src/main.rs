@@ -15,6 +15,7 @@ mod commands;
 mod compare;
 #[cfg(feature = "level-three")]
 mod compress;
+mod due;
 mod explain;
 mod files;
 mod format;
@@ -25,6 +26,7 @@ mod lines;
 mod nearest;
 mod panel;
 mod picture;
+mod pointer;
 mod quote;
 #[cfg(test)]
 mod random;
@@ -42,6 +44,7 @@ use std::process::ExitCode;
 #[cfg(feature = "level-two")]
 use apply::apply;
 use arguments::{Asked, Command, How, Job};
+use due::due;
 use judged::Judged;
 use panel::Panel;
 #[cfg(feature = "level-three")]
@@ -54,6 +57,8 @@ commands:
   compress FILE        shows the arena before and after canonical compression, and where each link came from
   compare A B          says whether two arenas hold the same chains of payloads, and where they first differ
   apply FILE COMMANDS  applies a list of edits, says what became of each, and prints the arena that is left
+  due FILE SLOT GENERATION FROM TO
+                       lists the links of a chain that are due from dot FROM of the frame to before dot TO
   none                 checks and compresses an arena of its own, and explains a broken one
 options:
   --reset              for compress: the links get generation 2, not the next one
@@ -66,8 +71,8 @@ options:
   --                   what follows is no option
 FILE, A, B and COMMANDS: `-` is standard input. docs/FORMAT.md describes both texts.
 status:
-  0                    the arena passes the check; the two hold the same; every command was done
-  1                    it is refused; they do not, or one is refused; a command was refused
+  0                    the arena passes the check; the two hold the same; every command was done; it was told what is due
+  1                    it is refused; they do not, or one is refused; a command was refused; the pointer or the window was
   2                    wrong use, a file that cannot be read or written, or a text that is no arena or no commands
 ";
 
@@ -136,6 +141,7 @@ fn done(job: Job) -> Result<Shown, String> {
         Command::Compress(file, how) => compress(&Judged::read(file)?.around(job.around)?, *how)?,
         Command::Compare(a, b) => compare(&Judged::read(a)?, &Judged::read(b)?)?,
         Command::Apply(file, commands) => apply(Judged::read(file)?, commands, job.around)?,
+        Command::Due(file, when) => due(&Judged::read(file)?, *when),
         Command::Samples => samples()?,
     };
     for target in &job.targets {

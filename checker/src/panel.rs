@@ -1,6 +1,6 @@
 //! An arena with what is said of it, to be shown as a picture or on a page.
 
-use chain_arena::{Header, OwnedArena, Slot};
+use chain_arena::{DueEvent, Header, OwnedArena, Slot};
 
 use crate::picture::Picture;
 
@@ -27,6 +27,23 @@ pub struct Panel {
     pub follows: bool,
     /// The slot whose chain alone is shown, if not all is
     pub around: Option<u32>,
+    /// The links that are due, in the order of the walk, where that was asked
+    pub due: Vec<Due>,
+}
+
+/// A link that is due, and where in the frame: its line, and its place in the line.
+#[derive(Clone, Copy, Debug, PartialEq, Eq)]
+pub struct Due {
+    pub slot: u32,
+    pub line: u32,
+    pub place: u32,
+}
+
+impl Due {
+    /// Where an event is in the frame.
+    pub fn of(DueEvent { ptr, dot }: DueEvent) -> Self {
+        Self { slot: ptr.slot.into(), line: dot.line().get(), place: dot.place() }
+    }
 }
 
 /// What is wrong at a slot.
@@ -49,7 +66,13 @@ impl Panel {
             where_from: Vec::new(),
             follows: false,
             around: None,
+            due: Vec::new(),
         }
+    }
+
+    /// Which one a slot is of those that are due, counted from 1, if it is due.
+    pub fn due_number(&self, slot: u32) -> Option<usize> {
+        self.due.iter().position(|due| due.slot == slot).map(|place| place + 1)
     }
 
     /// Whether something is wrong at a slot.

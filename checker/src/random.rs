@@ -4,7 +4,7 @@ use chain_arena::OwnedArena;
 #[cfg(feature = "level-two")]
 use chain_arena::{Command, LinkInsertKind, Ptr, Slot};
 #[cfg(feature = "level-two")]
-use {crate::by_slot::BySlot, crate::commands::written};
+use {crate::by_slot::BySlot, crate::pointer::written};
 
 /// Numbers that look random and are the same in every run.
 pub struct Random(u64);

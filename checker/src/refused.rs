@@ -7,8 +7,7 @@ use std::fmt;
 use chain_arena::{Command, LinkInsertKind, OwnedArena, Ptr, Refusal, RefusalKind, Side, Slot};
 
 use crate::by_slot::BySlot;
-use crate::commands::written;
-use crate::judged::off_stack;
+use crate::pointer::{stale, unlinked, written};
 
 /// Why a whole arena refused a command.
 pub fn why(a: &OwnedArena, command: Command, refusal: Refusal) -> String {
@@ -97,19 +96,10 @@ impl Named {
 
     /// That there is no such link.
     fn missing(self, a: &OwnedArena) -> Option<String> {
-        let (slot, generation) = (self.slot(), a.generation(self.slot()));
-        let other = matches!(self, Self::At(p) if p.generation != generation);
-        let why = match slot {
-            0 => "there is no slot 0".to_string(),
-            _ if !a.stack().contains(&slot) => off_stack(a, slot),
-            _ if generation == 0 => format!("slot {slot} is free"),
-            _ if other => format!("slot {slot} holds generation {generation}"),
-            _ => return None,
-        };
-        Some(match self {
-            Self::At(p) => format!("{} is stale: {why}", written(p)),
-            Self::In(_) => why,
-        })
+        match self {
+            Self::At(p) => stale(a, p),
+            Self::In(slot) => unlinked(a, slot.into()),
+        }
     }
 
     /// That the link has a neighbour on a side.

@@ -5,9 +5,12 @@ mod xml;
 
 #[cfg(feature = "level-two")]
 use chain_arena::OwnedArena;
+use chain_arena::Ptr;
 
 use crate::Shown;
-use crate::arguments::How;
+use crate::arguments::{How, When};
+use crate::by_slot::BySlot;
+use crate::due::due;
 use crate::format::text;
 use crate::judged::Judged;
 use crate::panel::Panel;
@@ -135,6 +138,12 @@ fn show(checked: Judged, other: &Judged, slot: u32) -> bool {
     let how = How { reset: slot.is_multiple_of(2), order_preserving: slot.is_multiple_of(3) };
     draw_if_done(crate::compress(&checked, how));
     draw_if_done(crate::compare(&checked, other));
+    for (from, to) in [(0, 5), (5, 0), (3, 3), (0, 89_342), (89_342, 7)] {
+        let p = Ptr { slot: slot as u16, generation: checked.arena.generation(slot) };
+        let due = due(&checked, When { p, from, to });
+        draw(&due.panels);
+        assert_eq!(due.passes, shown.passes && checked.arena.is_link(slot) && from < 89_342);
+    }
     if let Ok(around) = checked.around(Some(slot)) {
         draw(&around.show().panels);
         draw_if_done(crate::compress(&around, How::default()));

@@ -1,5 +1,5 @@
 //! Draws arenas: the header's words, chains as rows of boxes with arrows, free slots and the freelist in grey, broken slots
-//! in red.
+//! in red, and links that are due in orange, with a second edge and a number.
 
 use crate::by_slot::BySlot;
 use crate::panel::Panel;
@@ -31,6 +31,12 @@ const TEXT_HEIGHT: usize = 24;
 /// How far below its boxes the arrow runs that leads a row back to the left.
 const RETURN: usize = 18;
 
+/// How far the second edge of a box is inside of it.
+const INNER: usize = 4;
+/// The width and height of a sample box in the legend, and how far its words are to the right of its edge.
+const SAMPLE: (usize, usize) = (30, 18);
+const BESIDE: usize = 40;
+
 /// What stands below all.
 const NOTE: &str = "Each box is a slot: its number, its payload, and its generation (g) where that is not the current one. The \
                     arrows are next.";
@@ -45,12 +51,16 @@ text { font: 14px sans-serif; fill: #222 }
 .slot .number { font-weight: bold }
 .free rect { fill: #ddd; stroke: #999 }
 .free text { fill: #777 }
+.due rect { fill: #ffe3b8; stroke: #8a3f00; stroke-width: 2 }
+.slot text.due { fill: #8a3f00; font-size: 12px; font-weight: bold }
 .asked rect { stroke: #06c; stroke-width: 4 }
 .broken rect { fill: #fdd; stroke: #d00; stroke-width: 3 }
 .broken text, text.wrong { fill: #b00 }
 text.right { fill: #163 }
 text.told { fill: #850 }
 .broken.asked rect { stroke: #06c; stroke-width: 4 }
+.due rect.inner { fill: none; stroke: #8a3f00; stroke-width: 1.5 }
+.sample.asked rect { fill: #fff; stroke-width: 3 }
 text.before { text-anchor: end }
 path { fill: none; stroke-width: 1.5 }
 path.next { stroke: #222 }
@@ -210,6 +220,9 @@ impl Drawing {
             self.text("told", sentence);
         }
         self.header(panel);
+        if !panel.due.is_empty() {
+            self.legend(panel);
+        }
         if picture.rows.is_empty() {
             self.text("note", "There is no slot in the stack.");
         }
@@ -240,6 +253,40 @@ impl Drawing {
             self.width = self.width.max(x + width + MARGIN);
         }
         self.y = y + height;
+    }
+
+    /// Tells by sample boxes how links that are due are drawn, and the link that the walk begins with.
+    fn legend(&mut self, panel: &Panel) {
+        let (width, height) = SAMPLE;
+        self.y += 8;
+        let order = "Due: orange, with a second edge, and numbered in the order of the walk.";
+        let start = "The walk begins here: a blue edge.";
+        for (class, words) in [("due", Some(order)), ("asked", panel.around.map(|_| start))] {
+            let Some(words) = words else { continue };
+            let (x, y) = (MARGIN, self.y + 4);
+            self.body += &format!("<g class=\"sample {class}\">");
+            self.edge(x, y, width, height);
+            if class == "due" {
+                self.inner_edge(x, y, width, height);
+            }
+            self.body += "</g>\n";
+            self.label("note", MARGIN + BESIDE, y + 13, words);
+            self.width = self.width.max(2 * MARGIN + BESIDE + 7 * words.len());
+            self.y += TEXT_HEIGHT;
+        }
+    }
+
+    /// The edge of a box.
+    fn edge(&mut self, x: usize, y: usize, width: usize, height: usize) {
+        self.body += &format!("<rect x=\"{x}\" y=\"{y}\" width=\"{width}\" height=\"{height}\" rx=\"4\"/>");
+    }
+
+    /// The second edge of a box.
+    fn inner_edge(&mut self, x: usize, y: usize, width: usize, height: usize) {
+        let (x, y, width, height) = (x + INNER, y + INNER, width - 2 * INNER, height - 2 * INNER);
+        self.body += &format!(
+            "<rect class=\"inner\" x=\"{x}\" y=\"{y}\" width=\"{width}\" height=\"{height}\" rx=\"2\"/>"
+        );
     }
 
     /// Draws lines below each other.
@@ -338,21 +385,25 @@ impl Drawing {
         }
     }
 
-    /// Draws a slot: its number, its payload, its generation if that is not the current one, and after a compression where
-    /// the link came from. What is wrong with it is shown when one points at it.
+    /// Draws a slot: its number, its payload, its generation if that is not the current one, after a compression where the
+    /// link came from, and its number among those that are due. What is wrong with it is shown when one points at it.
     fn slot(&mut self, panel: &Panel, slot: u32, x: usize) {
         let (y, height, centre) = (self.y, self.box_height, x + BOX_WIDTH / 2);
         let free = panel.arena.is_free(slot);
         let kind = if free { " free" } else { "" };
         let broken = if panel.is_broken(slot) { " broken" } else { "" };
         let asked = if panel.around == Some(slot) { " asked" } else { "" };
-        self.body += &format!("<g class=\"slot{kind}{broken}{asked}\">");
+        let number = panel.due_number(slot);
+        let due = if number.is_some() { " due" } else { "" };
+        self.body += &format!("<g class=\"slot{kind}{broken}{due}{asked}\">");
         let wrong: Vec<&str> = panel.faults_at(slot).iter().map(|fault| fault.sentence.as_str()).collect();
         if !wrong.is_empty() {
             self.body += &format!("<title>{}</title>", escaped(&wrong.join("; ")));
         }
-        self.body +=
-            &format!("<rect x=\"{x}\" y=\"{y}\" width=\"{BOX_WIDTH}\" height=\"{height}\" rx=\"4\"/>");
+        self.edge(x, y, BOX_WIDTH, height);
+        if number.is_some() {
+            self.inner_edge(x, y, BOX_WIDTH, height);
+        }
         self.label("number", centre, y + 17, &slot.to_string());
         let payload = panel.arena.payload(slot).map_or("missing".to_string(), |payload| payload.to_string());
         let payload = if free { "free".to_string() } else { payload };
@@ -362,6 +413,9 @@ impl Drawing {
         }
         if let Some(from) = panel.where_from.get(slot as usize - 1) {
             self.label("note", centre, y + height + 13, &format!("from {from}"));
+        }
+        if let Some(number) = number {
+            self.label("due", centre, y + height + 13, &format!("due {number}"));
         }
         self.body += "</g>\n";
         self.width = self.width.max(x + STEP + 3 * MARGIN);

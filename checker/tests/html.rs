@@ -28,7 +28,7 @@ use std::time::{Duration, Instant};
 
 use chain_arena::OwnedArena;
 
-use panel::{Fault, Panel};
+use panel::{Due, Fault, Panel};
 
 /// As many slots as an arena can have.
 const MOST: u32 = 65_535;
@@ -294,6 +294,84 @@ fn what_must_be_told_of_an_arena_that_passes_is_no_refusal() {
         "<p class=\"verdict told\">the generation overflowed</p>\n<p class=\"verdict told\">and more</p>"
     ));
     assert!(!page.contains("verdict refused"));
+}
+
+/// The items of the list of what is due.
+fn due_items(page: &str) -> Vec<&str> {
+    let list = page.split("<details class=\"due-list\" open>").nth(1).unwrap_or_default();
+    let list = list.split("</details>").next().unwrap();
+    list.lines().filter_map(|line| line.strip_prefix("<li>")?.strip_suffix("</li>")).collect()
+}
+
+#[test]
+fn what_is_due_stands_in_the_page_with_and_without_a_script() {
+    let page = written(&["due", "frame.txt", "6", "6", "89000", "342"], "due.html");
+    assert!(page.contains("</i>Due, in the order of the walk: 3</summary>"));
+    let item =
+        |slot: u32, words: &str| format!("<a href=\"#panel=1&amp;slot={slot}\">slot {slot}</a>: {words}");
+    let items = [
+        item(6, "line 1, place 0, payload 341"),
+        item(3, "line 261, place 340, payload 89341"),
+        item(1, "line 0, place 340, payload 340"),
+    ];
+    assert_eq!(due_items(&page), items);
+    assert_eq!(column(&page, "due"), [6, 3, 1]);
+    assert_eq!(column(&page, "dueLines"), [1, 261, 0]);
+    assert_eq!(column(&page, "duePlaces"), [0, 340, 340]);
+    // The page has all slots, and the link that the walk begins with is chosen when it opens.
+    assert_eq!(column(&page, "order").len(), 9);
+    assert!(page.contains("\"around\":6,"));
+    assert!(page.contains("<p class=\"verdict told\">the chain of 6:6 has 5 links, of which 3 are due</p>"));
+    for sign in [".box.due { border-color: var(--due); }", "--due-ground: #ffd9a0;", "--due-ground: #4a2c0a;"]
+    {
+        assert!(page.contains(sign), "{sign}");
+    }
+    assert!(page.contains("<li>Orange boxes with a second edge are due, where that was asked."));
+}
+
+#[test]
+fn where_nothing_is_due_the_page_has_no_list_of_it() {
+    for command in [
+        &["check", "frame.txt"][..],
+        &["due", "frame.txt", "6", "6", "341", "341"],
+        &["due", "frame.txt", "3", "6", "0", "89342"],
+        &["due", "frame.txt", "6", "6", "0", "89343"],
+        &["due", "broken.txt", "1", "5", "0", "89342"],
+    ] {
+        let page = written(command, "due_none.html");
+        assert!(
+            !page.contains("<details class=\"due-list\"") && column(&page, "due").is_empty(),
+            "{command:?}"
+        );
+    }
+}
+
+#[test]
+fn a_long_list_of_what_is_due_is_cut() {
+    let due = (1..=1_500).rev().map(|slot| Due { slot, line: 0, place: slot % 341 }).collect();
+    let page = html::page(&[Panel { due, ..panel("due", one_chain(1_500)) }]);
+    assert_eq!(due_items(&page).len(), 1000);
+    assert!(
+        page.contains("Due, in the order of the walk: 1500</summary>")
+            && page.contains("<p>and 500 more</p>")
+    );
+    assert!(column(&page, "due").into_iter().eq((1..=1_500).rev()));
+}
+
+/// What is due is marked in its box by more than a colour, and told of the chosen slot.
+#[test]
+fn what_is_due_is_marked_in_a_browser() {
+    let page = written(&["due", "frame.txt", "6", "6", "89000", "342"], "due_browsed.html");
+    let steps = "
+note(chosen());
+note([...list(1).querySelectorAll('.box.due')].map((box) => `${box.dataset.slot}: ${box.querySelector('.due-number').textContent}`).join(', '));
+note(card(1, 'dl').textContent.includes('1 of 3: line 1, place 0'));
+note(box(1, 8).classList.contains('due')); note(box(1, 3).getAttribute('aria-label'));
+panels[0].querySelector('.due-list li:nth-child(2) a').click(); go('#panel=1&slot=3'); note(chosen());
+";
+    let Some(document) = browsed("due", &page, "", &format!("{TOOLS}{steps}")) else { return };
+    let marked = "1: due 3, 6: due 1, 3: due 2";
+    assert_eq!(noted(&document), ["6", marked, "true", "false", "slot 3, payload 89341, gen 5, due 2", "3"]);
 }
 
 /// Chromium, if it is here: what CHROMIUM names, else the first of its names on the PATH.

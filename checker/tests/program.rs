@@ -2,6 +2,7 @@
 
 #[cfg(feature = "level-two")]
 mod apply;
+mod due;
 mod xml;
 
 use std::fs::{self, File};
@@ -317,6 +318,7 @@ fn help_and_version_are_printed() {
             "compress FILE",
             "compare A B",
             "apply FILE COMMANDS",
+            "due FILE SLOT GENERATION FROM TO",
             "--reset",
             "--order-preserving",
             "--around SLOT",

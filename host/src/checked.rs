@@ -1,8 +1,9 @@
-//! Reading an arena that was checked once: plain Rust on columns that cannot change meanwhile (REFERENCE, Reading and Walk).
+//! Reading an arena that was checked once: plain Rust on columns that cannot change meanwhile (REFERENCE, Reading, Walk and
+//! Frame clock).
 
 use core::iter::FusedIterator;
 
-use crate::{Arena, ArenaMut, Header, Link, LinkNoGen, Ptr, Refusal, RefusalKind, Slot};
+use crate::{Arena, ArenaMut, Dot, Header, Link, LinkNoGen, Ptr, Refusal, RefusalKind, Slot, Window};
 
 /// An arena that has passed the check, borrowed so that it cannot change.
 ///
@@ -219,6 +220,21 @@ impl<'a> Checked<'a> {
         })
     }
 
+    /// The links of `p`'s chain that are due in a window, in the order of [`chain`](Self::chain), as [`Arena::due_events`]
+    /// reports their slots.
+    ///
+    /// # Errors
+    ///
+    /// 12 if `p` is stale.
+    pub fn due(
+        &self,
+        p: Ptr,
+        window: Window,
+    ) -> Result<impl FusedIterator<Item = (Ptr, Link)> + Clone + use<'a>, Refusal> {
+        let is_due = move |payload| Dot::new(payload).is_some_and(|dot| window.contains(dot));
+        self.chain(p).map(|chain| chain.filter(move |(_, link)| is_due(link.payload)))
+    }
+
     /// All chains, each along next: the open ones by their first links, then the closed ones by their lowest links, each
     /// begun there, in the order of the slots. To visit all of them takes time in proportion to the stack.
     pub fn chains(&self) -> Chains<'a> {
@@ -426,7 +442,7 @@ impl<'a> Iterator for Chains<'a> {
 impl FusedIterator for Chains<'_> {}
 
 /// The word of a column at a slot, 0 where it has none.
-fn word<T: Copy + Default>(column: &[T], slot: Slot) -> T {
+pub(crate) fn word<T: Copy + Default>(column: &[T], slot: Slot) -> T {
     // Slot 0 comes to the largest index there is, at which no column has a word.
     column.get(usize::from(slot).wrapping_sub(1)).copied().unwrap_or_default()
 }

@@ -1,10 +1,10 @@
 //! The exported calls as the archives have them. A lent slice crosses as a pointer and an element count; an answer is a
 //! struct by value. The same calls stand in include/chain_arena.h, and docs/REFERENCE.md is the manual of all of them.
 //!
-//! Every result begins with `number` (0: done, 100: done, and the generation overflowed, any other: refused, and why),
-//! `broken` (with 11 the lowest slot at which rule 11 fails, else 0) and `side` (with 11 where it fails there, 1: at the
-//! prev, 2: at the next alone, else 0). `done` reads these three. In a refusal every further field is 0; only a step answers
-//! its state, as it got it.
+//! Every result begins with `number` (0: done, 100: done, and the generation overflowed, any other: refused, and why). Of a
+//! call on an arena there follow `broken` (with 11 the lowest slot at which rule 11 fails, else 0) and `side` (with 11 where
+//! it fails there, 1: at the prev, 2: at the next alone, else 0). `done` reads these. In a refusal every further field is 0;
+//! only a step answers its state, as it got it.
 //!
 //! # Safety
 //!
@@ -109,9 +109,37 @@ pub struct InsertResult {
     pub generation: u32,
 }
 
-/// Gives each result what its first three words stand for, taken by their names.
+/// The line of a dot.
+#[repr(C)]
+#[derive(Clone, Copy, Debug, PartialEq, Eq)]
+pub struct LineResult {
+    pub number: u32,
+    pub line: u32,
+}
+
+/// The first and the last dot of a line.
+#[repr(C)]
+#[derive(Clone, Copy, Debug, PartialEq, Eq)]
+pub struct LineDotsResult {
+    pub number: u32,
+    pub first: u32,
+    pub last: u32,
+}
+
+/// How many links of a chain are due.
+#[repr(C)]
+#[derive(Clone, Copy, Debug, PartialEq, Eq)]
+pub struct DueResult {
+    pub number: u32,
+    pub broken: u32,
+    pub side: u32,
+    pub count: u32,
+}
+
+/// Gives each result what its first words stand for, taken by their names: the results of calls on an arena, then those of
+/// calls that take none.
 macro_rules! done {
-    ($($result:ident)*) => {
+    ($($result:ident)*; $($bare:ident)*) => {
         $(impl $result {
             /// That the call was done, or its refusal, as `number`, `broken` and `side` tell it.
             ///
@@ -122,10 +150,23 @@ macro_rules! done {
                 Done::of(self.number, self.broken, self.side)
             }
         })*
+        $(impl $bare {
+            /// That the call was done, or its refusal, as `number` tells it.
+            ///
+            /// # Errors
+            ///
+            /// The refusal, where the number is neither 0 nor 100.
+            pub const fn done(self) -> Result<Done, Refusal> {
+                Done::of(self.number, 0, 0)
+            }
+        })*
     };
 }
 
-done! { PlainResult LinkResult LinkNoGenResult NeighborsResult WalkResult StepResult DrainResult InsertResult }
+done! {
+    PlainResult LinkResult LinkNoGenResult NeighborsResult WalkResult StepResult DrainResult InsertResult DueResult;
+    LineResult LineDotsResult
+}
 
 // Level One
 #[cfg(feature = "level-one")]
@@ -177,6 +218,30 @@ unsafe extern "C" {
         header: *const u32, header_len: usize,
         start: u32, position: u32, direction: u32, left: u32,
     ) -> StepResult;
+
+    /// The line of a dot of the frame. 19: the frame has no such dot.
+    pub fn chain_arena_line_of_dot(dot: u32) -> LineResult;
+
+    /// The first and the last dot of a line of the frame. 19: the frame has no such line.
+    pub fn chain_arena_line_dots(line: u32) -> LineDotsResult;
+
+    /// How many links of p's chain are due, that is have a payload in the window from `from` up to, but not including, `to`. 12: p
+    /// is stale; 19: the frame has no such window.
+    pub fn chain_arena_due_count(
+        prev: *const u16, prev_len: usize, next: *const u16, next_len: usize,
+        generation: *const u32, generation_len: usize, payload: *const u32, payload_len: usize,
+        header: *const u32, header_len: usize,
+        p_slot: u16, p_generation: u32, from: u32, to: u32,
+    ) -> DueResult;
+
+    /// Writes the slots of those links into the report, in the order of a walk from p, and answers how many they are. 12: p is
+    /// stale; 19: the frame has no such window; 14: the report has fewer words than the chain has links.
+    pub fn chain_arena_due_events(
+        prev: *const u16, prev_len: usize, next: *const u16, next_len: usize,
+        generation: *const u32, generation_len: usize, payload: *const u32, payload_len: usize,
+        header: *const u32, header_len: usize,
+        p_slot: u16, p_generation: u32, from: u32, to: u32, report: *mut u16, report_len: usize,
+    ) -> DueResult;
 }
 
 // Level Two

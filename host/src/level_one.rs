@@ -1,6 +1,7 @@
-//! Level One: checking an arena, reading links and neighbours, starting a walk (REFERENCE, Check, Reading and Walk).
+//! Level One: checking an arena, reading links and neighbours, starting a walk, what of a chain is due (REFERENCE, Check,
+//! Reading, Walk and Frame clock).
 
-use crate::{Arena, Link, LinkNoGen, Ptr, Refusal, Steps, Walk};
+use crate::{Arena, Due, Link, LinkNoGen, Ptr, Refusal, Slot, Steps, Walk, Window};
 
 /// The calls of Level One. Each checks the whole arena first; [`checked`](Self::checked) does so once for many reads.
 impl<'a> Arena<'a> {
@@ -86,5 +87,75 @@ impl<'a> Arena<'a> {
     /// 1 to 11 as [`check`](Self::check).
     pub fn walk_from(&self, walk: Walk) -> Result<Steps<'a>, Refusal> {
         self.check().map(|()| Steps::new(*self, walk))
+    }
+
+    /// How many links of `p`'s chain are due in a window: those whose payload is a dot of it. A payload that is no
+    /// dot of the frame is never due.
+    ///
+    /// # Errors
+    ///
+    /// 1 to 11 as [`check`](Self::check), then 12 if `p` is stale.
+    pub fn due_count(&self, p: Ptr, window: Window) -> Result<usize, Refusal> {
+        let answer = call!(chain_arena_due_count(
+            self,
+            as_ptr,
+            p.slot,
+            p.generation,
+            window.start().get(),
+            window.end()
+        ));
+        answer.done().map(|_| answer.count as usize)
+    }
+
+    /// The links of `p`'s chain that are due in a window, in the order of [`walk`](Self::walk). The report needs a word for
+    /// each link of the chain, due or not; words past those that are due stay as they were.
+    ///
+    /// One call checks the arena once, however many links are due. To ask for many chains or windows of an arena that does
+    /// not change, [`Checked::due`](crate::Checked::due) gives the same links after one check for all.
+    ///
+    /// ```
+    /// use chain_arena::{Arena, Line, Ptr};
+    ///
+    /// // 1 -> 3 -> 2: two events on line 1, and one on line 2.
+    /// let arena = Arena {
+    ///     prev: &[0, 3, 1],
+    ///     next: &[3, 0, 2],
+    ///     generation: &[5, 5, 5],
+    ///     payload: &[681, 341, 682],
+    ///     header: &[3, 3, 0, 5],
+    /// };
+    /// let (p, line) = (Ptr { slot: 3, generation: 5 }, Line::new(1).unwrap());
+    /// assert_eq!(arena.due_count(p, line.window())?, 2);
+    /// let mut report = [0; 3];
+    /// let due = arena.due_events(p, line.window(), &mut report)?;
+    /// assert_eq!(due.slots, [2, 1]);
+    /// assert!(due.events().map(|event| event.dot.place()).eq([0, 340]));
+    /// # Ok::<(), chain_arena::Refusal>(())
+    /// ```
+    ///
+    /// # Errors
+    ///
+    /// 1 to 11 as [`check`](Self::check), then 12 if `p` is stale, then 14 if the report has fewer words than the chain has
+    /// links.
+    pub fn due_events<'r>(
+        &self,
+        p: Ptr,
+        window: Window,
+        report: &'r mut [Slot],
+    ) -> Result<Due<'a, 'r>, Refusal> {
+        let answer = call!(chain_arena_due_events(
+            self,
+            as_ptr,
+            p.slot,
+            p.generation,
+            window.start().get(),
+            window.end(),
+            report.as_mut_ptr(),
+            report.len()
+        ));
+        answer.done().map(|_| {
+            let report: &'r [Slot] = report;
+            Due { slots: report.get(..answer.count as usize).unwrap_or(report), arena: *self }
+        })
     }
 }

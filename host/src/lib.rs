@@ -2,7 +2,8 @@
 //!
 //! An arena is lent as five slices: prev, next, generation and payload by slot, and a header of four words. [`Arena`] reads
 //! it (Level One), [`ArenaMut`] edits it (Level Two) and compresses it (Level Three). Every call checks the arena first,
-//! answers on any words, and says with a number why it refuses; a refused call has written nothing.
+//! answers on any words, and says with a number why it refuses; a refused call has written nothing. Level One also has a
+//! clock for payloads that are dots of a frame: `Dot`, `Line` and `Window`.
 //!
 //! The manual is docs/REFERENCE.md: what each call does, and what each number means. 'REFERENCE, Drain' names its section
 //! on drains.
@@ -88,6 +89,8 @@ macro_rules! call {
 mod arena;
 #[cfg(feature = "level-one")]
 mod checked;
+#[cfg(feature = "level-one")]
+mod clock;
 #[expect(missing_docs, reason = "the words of a result are named as the calls name them")]
 pub mod ffi;
 #[cfg(feature = "level-two")]
@@ -110,6 +113,8 @@ mod walk;
 pub use arena::{Arena, ArenaMut, Header};
 #[cfg(feature = "level-one")]
 pub use checked::{Chain, Chains, Checked, Links};
+#[cfg(feature = "level-one")]
+pub use clock::{Dot, Due, DueEvent, Line, Window};
 #[cfg(feature = "level-two")]
 pub use insert::LinkInsertKind;
 #[cfg(feature = "level-three")]

@@ -106,6 +106,7 @@ kinds! {
     16 Command "the command words are no whole commands, or a code or a kind of insertion is unknown"
     17 LinkRequirement "what a kind of insertion asks does not hold, or one of its pointers is stale"
     18 NotWithinCapacity "there is no room for a link: every slot of the columns holds one"
+    19 OutOfFrame "out of the frame: a dot is over 89,341, a window's end over 89,342, or a line over 261"
 }
 
 impl fmt::Display for RefusalKind {

@@ -1,5 +1,5 @@
 /* Makes every call of the levels that are asked for, on an arena that passes the check and on two that rule 11 refuses, one for each side, and prints
- * every word that it answers and leaves.
+ * every word that it answers and leaves. A call without an arena is made with three words, the last of which it refuses.
  *
  * With the words CALL KIND I J it makes that call alone, with its arguments I and J of a kind exchanged: as if the archive had these two parameters the
  * other way round. The kinds: 0 slices of slots, 1 slices of words, 2 slots, 3 words. It ends with status 2 if the call has no such arguments. */
@@ -11,7 +11,8 @@
 typedef struct { uint16_t *at; size_t len; } slots;
 typedef struct { uint32_t *at; size_t len; } words;
 
-/* The arguments of a call: first prev and next, then a where-from column; first generation, payload and header, then what else is lent. */
+/* The arguments of a call: first prev and next, then a where-from column or a report of slots; first generation, payload and header, then what else is
+ * lent. */
 typedef struct { slots column[3]; words slice[5]; uint16_t slot[2]; uint32_t word[4]; } arguments;
 
 #define SLOTS(k) a->column[k].at, a->column[k].len
@@ -50,6 +51,26 @@ static void walk_step(arguments *a) {
     chain_arena_step_result r = chain_arena_walk_step(ARENA, a->word[0], a->word[1], a->word[2], a->word[3]);
     ANSWER(r); FIELD(r, slot); FIELD(r, generation); FIELD(r, start); FIELD(r, position); FIELD(r, direction); FIELD(r, left);
 }
+
+static void line_of_dot(arguments *a) {
+    chain_arena_line_result r = chain_arena_line_of_dot(a->word[0]);
+    FIELD(r, number); FIELD(r, line);
+}
+
+static void line_dots(arguments *a) {
+    chain_arena_line_dots_result r = chain_arena_line_dots(a->word[0]);
+    FIELD(r, number); FIELD(r, first); FIELD(r, last);
+}
+
+static void due_count(arguments *a) {
+    chain_arena_due_result r = chain_arena_due_count(ARENA, POINTER(0), a->word[1], a->word[2]);
+    ANSWER(r); FIELD(r, count);
+}
+
+static void due_events(arguments *a) {
+    chain_arena_due_result r = chain_arena_due_events(ARENA, POINTER(0), a->word[1], a->word[2], SLOTS(2));
+    ANSWER(r); FIELD(r, count);
+}
 #endif
 
 #ifdef LEVEL_TWO
@@ -85,7 +106,7 @@ static void compress_canonical(arguments *a) { PLAIN(chain_arena_compress_canoni
 #endif
 
 /* A call: its name, how many arguments of each kind it has, the slots and words among them, and the words of the first slice that it is lent beside the
- * arena. */
+ * arena. A call without an arena has one argument, which is each of the first three words in turn. */
 typedef struct {
     const char *name;
     void (*make)(arguments *);
@@ -104,6 +125,10 @@ static const call calls[] = {
     {"are_neighbors", are_neighbors, {2, 3, 2, 2}, {1, 2}, {5, 6}, 0, {0}},
     {"walk_start", walk_start, {2, 3, 1, 1}, {2}, {6}, 0, {0}},
     {"walk_step", walk_step, {2, 3, 0, 4}, {0}, {2, 4, 0, 3}, 0, {0}},
+    {"line_of_dot", line_of_dot, {0, 0, 0, 1}, {0}, {1000, CHAIN_ARENA_FRAME_DOTS - 1, CHAIN_ARENA_FRAME_DOTS}, 0, {0}},
+    {"line_dots", line_dots, {0, 0, 0, 1}, {0}, {2, CHAIN_ARENA_FRAME_LINES - 1, CHAIN_ARENA_FRAME_LINES}, 0, {0}},
+    {"due_count", due_count, {2, 3, 1, 3}, {2}, {6, 35, 15}, 0, {0}},
+    {"due_events", due_events, {3, 3, 1, 3}, {2}, {6, 35, 15}, 0, {0}},
 #endif
 #ifdef LEVEL_TWO
     {"connect", connect, {2, 3, 2, 2}, {4, 5}, {7, 9}, 0, {0}},
@@ -149,6 +174,7 @@ static void make(const call *c, uint32_t side, int kind, int i, int j) {
                    {{generation, 6}, {payload, 6}, {header, 4}, {first, c->lent}, {answers, 3}},
                    {c->slot[0], c->slot[1]},
                    {c->word[0], c->word[1], c->word[2], c->word[3]}};
+    if (c->count[0] == 0) a.word[0] = c->word[side];
     exchange(&a, kind, i, j);
     printf("%s", c->name);
     c->make(&a);

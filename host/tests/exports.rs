@@ -1,5 +1,5 @@
 //! The archives export the names of the list and no others, and need nothing from outside but the C library's copying; the
-//! C header declares the same names.
+//! C header declares the same names, and the wrapper calls each of them.
 
 use std::collections::BTreeSet;
 use std::fs;
@@ -67,4 +67,46 @@ fn the_header_declares_the_names_of_the_list() {
         text.lines().filter_map(|line| line.strip_suffix('(')?.split(' ').nth(1)).collect();
     let listed: Vec<&str> = LEVELS.iter().flat_map(|level| level.exports).copied().collect();
     assert_eq!(declared, listed);
+}
+
+/// The sources of the wrapper but for the declarations, one behind the other.
+fn wrapper() -> String {
+    let folder = Path::new(env!("CARGO_MANIFEST_DIR")).join("src");
+    let files = fs::read_dir(folder).unwrap().map(|entry| entry.unwrap().path());
+    let sources = files.filter(|file| !file.ends_with("ffi.rs"));
+    sources.map(|file| fs::read_to_string(file).unwrap()).collect()
+}
+
+#[test]
+fn the_wrapper_calls_every_export() {
+    let wrapper = wrapper();
+    for call in LEVELS.iter().flat_map(|level| level.exports) {
+        assert!(wrapper.contains(&format!("{call}(")), "{call}");
+    }
+}
+
+/// The body of a function that stands in the wrapper.
+fn body<'w>(wrapper: &'w str, function: &str) -> &'w str {
+    let (_, behind) = wrapper.split_once(function).unwrap_or_else(|| panic!("{function} is not there"));
+    let (_, body) = behind.split_once("{\n").unwrap();
+    body.split("}\n").next().unwrap()
+}
+
+#[test]
+fn what_a_dot_and_a_line_answer_comes_from_the_proved_calls() {
+    let wrapper = wrapper();
+    for (function, call) in [
+        ("fn line_of_dot(dot: u32)", "unsafe { chain_arena_line_of_dot(dot)"),
+        ("fn line_dots(line: u32)", "unsafe { chain_arena_line_dots(line)"),
+        ("pub fn line(self) -> Line", "Line(line_of_dot(self.0).line)"),
+        ("pub fn place(self) -> u32", "self.0 - self.line().first().0"),
+        ("pub fn first(self) -> Dot", "Dot(line_dots(self.0).first)"),
+        ("pub fn last(self) -> Dot", "Dot(line_dots(self.0).last)"),
+        ("pub fn dot(self, place: u32)", "Dot(self.first().0 + place)"),
+        ("pub fn window(self) -> Window", "= line_dots(self.0);"),
+        ("fn try_from(dot: u32)", "line_of_dot(dot).done()"),
+        ("fn try_from(line: u32)", "line_dots(line).done()"),
+    ] {
+        assert!(body(&wrapper, function).contains(call), "{function}");
+    }
 }

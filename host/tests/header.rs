@@ -62,6 +62,11 @@ fn calls() -> Vec<(String, String)> {
     calls
 }
 
+/// Whether a call takes an arena.
+fn takes_arena(name: &str) -> bool {
+    !crate::sold::WITHOUT_ARENA.contains(&&*format!("chain_arena_{name}"))
+}
+
 /// The fields of each reply among a call's lines: name and value.
 fn replies(lines: &str) -> Vec<Vec<(&str, &str)>> {
     let replies = lines.lines().filter(|line| !line.starts_with(' '));
@@ -93,7 +98,8 @@ fn any_two_arguments_of_one_type_exchanged_are_seen() {
                 }
             }
         }
-        assert!(seen >= 4, "{name}: prev and next, and any two of generation, payload and header");
+        let least = if takes_arena(&name) { 4 } else { 0 };
+        assert!(seen >= least, "{name}: prev and next, and any two of generation, payload and header");
     }
 }
 
@@ -102,7 +108,9 @@ fn any_two_fields_exchanged_are_seen() {
     for (name, lines) in calls() {
         let replies = replies(&lines);
         let fields: Vec<&str> = replies[0].iter().map(|(field, _)| *field).collect();
-        assert_eq!(fields[..3], ["number", "broken", "side"], "{name}");
+        let first: &[&str] = if takes_arena(&name) { &["number", "broken", "side"] } else { &["number"] };
+        let shared = fields.iter().filter(|field| ["number", "broken", "side"].contains(*field));
+        assert!(fields.starts_with(first) && shared.count() == first.len(), "{name}: {fields:?}");
         for (i, j) in (0..fields.len()).flat_map(|j| (0..j).map(move |i| (i, j))) {
             let seen = replies.iter().any(|reply| reply[i].1 != reply[j].1);
             assert_eq!(
@@ -118,22 +126,40 @@ fn any_two_fields_exchanged_are_seen() {
 
 #[test]
 fn every_call_names_the_lowest_slot_and_its_side() {
-    for (name, lines) in calls() {
+    for (name, lines) in calls().into_iter().filter(|(name, _)| takes_arena(name)) {
         let first: Vec<[&str; 3]> =
             replies(&lines).iter().map(|reply| [0, 1, 2].map(|k| reply[k].1)).collect();
         assert_eq!(first, [["0", "0", "0"], ["11", "5", "1"], ["11", "4", "2"]], "{name}");
     }
 }
 
-#[cfg(all(feature = "level-two", feature = "level-three"))]
 #[test]
-fn the_example_of_the_readme_runs() {
+fn a_call_without_an_arena_refuses_the_last_of_its_words_with_19() {
+    for (name, lines) in calls().into_iter().filter(|(name, _)| !takes_arena(name)) {
+        let numbers: Vec<&str> = replies(&lines).iter().map(|reply| reply[0].1).collect();
+        assert_eq!(numbers, ["0", "0", "19"], "{name}");
+        let refused = replies(&lines)[2][1..].to_vec();
+        assert!(refused.iter().all(|(_, word)| *word == "0"), "{name}: {refused:?}");
+    }
+}
+
+/// What the README's examples for C print, in their order.
+#[cfg(all(feature = "level-one", feature = "level-two", feature = "level-three"))]
+const PRINTED: [&str; 2] = ["5 0: 1 5 3 4 2\n", "line 2: 682 to 1022\n2 due: slots 3 1\n"];
+
+#[cfg(all(feature = "level-one", feature = "level-two", feature = "level-three"))]
+#[test]
+fn the_examples_of_the_readme_run() {
     let readme = std::fs::read_to_string(package().join("../README.md")).unwrap();
-    let (_, example) = readme.split_once("```c\n").expect("an example for C");
-    let (example, _) = example.split_once("```").expect("the example's end");
-    let source = Path::new(env!("CARGO_TARGET_TMPDIR")).join("readme.c");
-    std::fs::write(&source, example).unwrap();
-    assert_eq!(text(Command::new(compiled(&source, "readme")).output().unwrap()), "5 0: 1 5 3 4 2\n");
+    let examples: Vec<&str> =
+        readme.split("```c\n").skip(1).filter_map(|rest| rest.split("```").next()).collect();
+    assert_eq!(examples.len(), PRINTED.len());
+    for (k, (example, printed)) in examples.iter().zip(PRINTED).enumerate() {
+        let source = Path::new(env!("CARGO_TARGET_TMPDIR")).join(format!("readme_{k}.c"));
+        std::fs::write(&source, example).unwrap();
+        let program = compiled(&source, &format!("readme_{k}"));
+        assert_eq!(text(Command::new(program).output().unwrap()), printed);
+    }
 }
 
 /// Every dialect that the header is for: the compiler, and the option for the dialect.
@@ -151,9 +177,10 @@ fn the_header_is_good_in_every_dialect_and_its_numbers_differ() {
     };
     let codes = [constants("CHAIN_ARENA_COMMAND_"), constants("CHAIN_ARENA_INSERT_")].concat();
     let sides = constants("CHAIN_ARENA_SIDE_");
-    let other = |name: &String| !codes.contains(name) && !sides.contains(name);
+    let frame = constants("CHAIN_ARENA_FRAME_");
+    let other = |name: &String| ![&codes, &sides, &frame].iter().any(|names| names.contains(name));
     let numbers: Vec<String> = constants("CHAIN_ARENA_").into_iter().filter(other).collect();
-    assert_eq!((numbers.len(), codes.len(), sides.len()), (20, 19, 2));
+    assert_eq!((numbers.len(), codes.len(), sides.len(), frame.len()), (21, 19, 2, 3));
     // Two cases of one value are an error, and so is a value that is no constant.
     let known = |name: &str, cases: &[String]| {
         let cases = cases.concat();
@@ -162,10 +189,11 @@ fn the_header_is_good_in_every_dialect_and_its_numbers_differ() {
         )
     };
     let program = format!(
-        "#include \"chain_arena.h\"\n{}{}{}",
+        "#include \"chain_arena.h\"\n{}{}{}{}",
         known("is_number", &numbers),
         known("is_code", &codes),
-        known("is_side", &sides)
+        known("is_side", &sides),
+        known("is_of_the_frame", &frame)
     );
     let mut tried = 0;
     for (compiler, dialects) in DIALECTS {

@@ -3,13 +3,14 @@
 //! type exchanged in the Rattle source are found.
 //!
 //! What each export promises follows from its signature, so that is held too: `Answered` of its own call with its own arguments, of the arena at entry and
-//! at exit, of every field and of what is lent; and nothing is asked of the caller. A weaker promise with a proof that fits it would pass the prover.
+//! at exit, of every field and of what is lent; without an arena, that its number and every field are what is defined of its own arguments; and nothing is
+//! asked of the caller. A weaker promise with a proof that fits it would pass the prover.
 
 use std::collections::BTreeSet;
 use std::fs;
 use std::path::{Path, PathBuf};
 
-use crate::sold::{LEVELS, Level};
+use crate::sold::{LEVELS, Level, WITHOUT_ARENA};
 
 /// A parameter or a field: its name, and its type as Rust has it.
 type Place = (String, String);
@@ -204,21 +205,52 @@ fn listed(items: Vec<String>) -> String {
     if all.len() == 1 { "[]".to_string() } else { format!("({})", all.join(" ∷ ")) }
 }
 
-/// The contract that an export's signature asks for. A walk's step is handed the words of its state, and hands them back.
-fn promised(text: &str, call: &str) -> String {
-    let parameters: Vec<Place> =
-        items(between(text, &format!("fn {call}("), ")")).into_iter().map(named).collect();
-    let names: Vec<&str> = parameters.iter().map(|(name, _)| name.as_str()).collect();
-    let (columns, own) = (&names[..5], &parameters[5..]);
-    assert_eq!(columns, ["prev", "next", "generation", "payload", "header"], "{call}");
-    let of = result(text, call);
-    let fields: Vec<String> = items(between(text, &format!("pub struct {of} {{"), "}"))
+/// The parameters of an export as they stand in its signature.
+fn parameters(text: &str, call: &str) -> Vec<Place> {
+    items(between(text, &format!("fn {call}("), ")")).into_iter().map(named).collect()
+}
+
+/// The words of an export's result as a contract writes them, those of the answer that it may begin with left out.
+fn words(text: &str, of: &str) -> Vec<String> {
+    items(between(text, &format!("pub struct {of} {{"), "}"))
         .into_iter()
         .map(named)
         .filter(|(_, of)| of == "u32")
         .map(|(name, _)| format!("r .{}", marked(&name)))
+        .collect()
+}
+
+/// The contract that an export's signature asks for.
+fn promised(text: &str, call: &str) -> String {
+    match WITHOUT_ARENA.contains(&call) {
+        true => promised_without_arena(text, call),
+        false => promised_of_arena(text, call),
+    }
+}
+
+/// The contract of an export that takes words and no arena: its number and its further fields are what is defined of these words.
+fn promised_without_arena(text: &str, call: &str) -> String {
+    let arguments: Vec<String> = parameters(text, call)
+        .iter()
+        .map(|(name, of)| {
+            assert_eq!(of, "u32", "{call}: {name}");
+            marked(name)
+        })
         .collect();
-    let mut fields = if of == "Answer" { vec![] } else { fields };
+    let mut words = words(text, result(text, call));
+    assert_eq!(words.remove(0), "r .number", "{call}");
+    let defined = [vec![definition_of(call)], arguments].concat().join(" ");
+    format!("ensures {{ λ r. ⌜ told (r .number) {} ≡ {defined} ⌝ }}", listed(words))
+}
+
+/// The contract of an export that takes an arena. A walk's step is handed the words of its state, and hands them back.
+fn promised_of_arena(text: &str, call: &str) -> String {
+    let parameters = parameters(text, call);
+    let names: Vec<&str> = parameters.iter().map(|(name, _)| name.as_str()).collect();
+    let (columns, own) = (&names[..5], &parameters[5..]);
+    assert_eq!(columns, ["prev", "next", "generation", "payload", "header"], "{call}");
+    let of = result(text, call);
+    let mut fields = if of == "Answer" { vec![] } else { words(text, of) };
     let (mut arguments, mut lent, mut back) = (vec![], "[]".to_string(), "[]".to_string());
     if call == "chain_arena_walk_step" {
         lent = listed(own.iter().map(|(name, _)| marked(name)).collect());
@@ -279,11 +311,22 @@ fn call_of(export: &str) -> String {
     words.map(|word| word[..1].to_uppercase() + &word[1..]).collect()
 }
 
+/// What is defined of a call without an arena, as the definitions name it.
+fn definition_of(export: &str) -> String {
+    let name = call_of(export);
+    name[..1].to_lowercase() + &name[1..]
+}
+
 /// Whether a line brings in each word of a contract from the module that gives it its meaning.
 fn from_home(line: &str) -> bool {
     let (module, _) = line.trim_start_matches("ghost use ").split_once(".{").expect("a module and names");
     let home = |name: &str| match name {
         "Answered" => Some("Rattle.answers.specs.Answered"),
+        "told" => Some("Rattle.definitions.specs.Clock"),
+        name if WITHOUT_ARENA.iter().any(|call| definition_of(call) == name) => {
+            Some("Rattle.definitions.specs.Clock")
+        }
+        "_≡_" => Some("mathlib.Core.Path"),
         "atEntry" | "atExit" => Some("Rattle.definitions.specs.Lent"),
         "pointer" => Some("Rattle.definitions.specs.Read"),
         "not" => Some("mathlib.Core.Bool"),
@@ -338,6 +381,12 @@ fn a_word_of_a_contract_from_elsewhere_is_found() {
         "ghost use Rattle.answers.specs.Mine.{atExit};",
         "ghost use Rattle.answers.specs.Mine.{now};",
         "ghost use Rattle.answers.specs.Mine.{_∷_};",
+        "ghost use Rattle.answers.specs.Mine.{_≡_};",
+        "ghost use Rattle.answers.specs.Mine.{told};",
+        "ghost use Rattle.answers.specs.Mine.{lineOfDot};",
+        "ghost use Rattle.definitions.specs.Calls.{DueCount, lineDots};",
+        "ghost use Rattle.definitions.specs.Clock.{told, DueEvents};",
+        "ghost use Rattle.definitions.specs.Clock.{lineDots as lineOfDot};",
         "ghost use Rattle.definitions.specs.Calls.{Connect as BreakPrev, BreakPrev as Connect};",
     ] {
         assert!(!from_home(line), "{line}");
@@ -354,10 +403,22 @@ fn a_weaker_promise_is_found_in_every_export() {
             assert_ne!(changed, behind, "{call}: {from}");
             format!("{before}fn {call}({changed}")
         };
-        let asks = wrong("    ensures {", "    requires { ⌜ 0 ≡ 0 ⌝ }\n    ensures {");
-        let says_nothing = wrong("⌜ Answered ", "⌜ ⊥ → Answered ");
-        let same_arena = wrong("(atExit ", "(atEntry ");
-        for text in [asks, says_nothing, same_arena] {
+        let mut weaker = vec![wrong("    ensures {", "    requires { ⌜ 0 ≡ 0 ⌝ }\n    ensures {")];
+        if WITHOUT_ARENA.contains(&call) {
+            let (defined, first) = (definition_of(call), &parameters(&rattle, call)[0].0);
+            let other = WITHOUT_ARENA.iter().map(|call| definition_of(call)).find(|other| *other != defined);
+            weaker.extend([
+                wrong("⌜ told ", "⌜ ⊥ → told "),
+                wrong("told (r .number) ", "told 0 "),
+                wrong("(r .number) (", "(r .number) (0 ∷ "),
+                wrong(" ∷ [])", " ∷ r .number ∷ [])"),
+                wrong(&format!("≡ {defined} {first} ⌝"), &format!("≡ {defined} 0 ⌝")),
+                wrong(&format!("≡ {defined} "), &format!("≡ {} ", other.unwrap())),
+            ]);
+        } else {
+            weaker.extend([wrong("⌜ Answered ", "⌜ ⊥ → Answered "), wrong("(atExit ", "(atEntry ")]);
+        }
+        for text in weaker {
             assert_ne!(stated(&text, call), promised(&text, call), "{call}");
         }
     }
@@ -379,8 +440,12 @@ fn rattle_c_and_rust_declare_the_same() {
     let (rattle, header, rust) = (rattle(), read("include/chain_arena.h"), read("host/src/ffi.rs"));
     for call in calls() {
         let exported = of_rust(&rattle, call);
-        let first = ["number", "broken", "side"].map(|name| (name.to_string(), "u32".to_string()));
-        assert_eq!(exported.fields[..3], first, "{call}");
+        let first: &[&str] =
+            if WITHOUT_ARENA.contains(&call) { &["number"] } else { &["number", "broken", "side"] };
+        let names: Vec<&str> = exported.fields.iter().map(|(name, _)| name.as_str()).collect();
+        let shared = names.iter().copied().filter(|name| ["number", "broken", "side"].contains(name));
+        assert!(names.starts_with(first) && shared.eq(first.iter().copied()), "{call}: {names:?}");
+        assert!(exported.fields.iter().all(|(_, of)| of == "u32"), "{call}");
         assert_eq!(of_c(&header, call), exported, "{call} in the C header");
         assert_eq!(of_rust(&rust, call), exported, "{call} in host/src/ffi.rs");
     }
@@ -400,12 +465,14 @@ fn an_exchange_of_two_parameters_or_fields_is_found_in_every_export() {
             }
         };
         plant(&format!("fn {call}("), ")");
-        for of in ["Answer", result(&rattle, call)] {
+        let (shared, least): (&[&str], _) =
+            if WITHOUT_ARENA.contains(&call) { (&[], 1) } else { (&["Answer"], 5) };
+        for of in shared.iter().copied().chain([result(&rattle, call)]) {
             plant(&format!("pub struct {of} {{"), "}");
         }
         assert!(
-            planted >= 5,
-            "{call}: prev and next, generation and payload, any two of number, broken and side"
+            planted >= least,
+            "{call}: prev and next, generation and payload, any two of number, broken and side; without an arena, the number and a field"
         );
     }
 }

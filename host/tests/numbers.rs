@@ -90,12 +90,8 @@ fn the_table_is_the_same_everywhere() {
     assert_eq!(told("README.md"), table);
     let mut commented = commented();
     for row in commented.iter_mut().filter(|row| row.0 <= 11) {
-        assert_eq!(
-            std::mem::replace(&mut row.3, "all".to_string()),
-            "",
-            "{} is a number of every call",
-            row.0
-        );
+        let all = if row.0 == 0 { "all" } else { "all with an arena" };
+        assert_eq!(std::mem::replace(&mut row.3, all.to_string()), "", "{} is a number of all these", row.0);
     }
     assert_eq!(commented, table);
 }
@@ -197,6 +193,15 @@ fn the_codes_and_word_counts_are_those_of_the_wrapper() {
     assert_eq!(self::constants("CHAIN_ARENA_DRAIN_"), [(drained, "WORDS".to_string())]);
 }
 
+#[cfg(feature = "level-one")]
+#[test]
+fn the_frame_is_that_of_the_wrapper() {
+    use chain_arena::{Dot, Line};
+    let frame = [(Line::COUNT, "LINES"), (Line::DOTS, "LINE_DOTS"), (Dot::COUNT, "DOTS")];
+    assert_eq!(constants("CHAIN_ARENA_FRAME_"), frame.map(|(value, name)| (value, name.to_string())));
+    assert_eq!(frame.map(|(value, _)| value), [262, 341, 89_342]);
+}
+
 #[cfg(feature = "level-three")]
 #[test]
 fn the_words_of_a_moved_link_are_those_of_the_wrapper() {
@@ -204,14 +209,15 @@ fn the_words_of_a_moved_link_are_those_of_the_wrapper() {
     assert_eq!(constants("CHAIN_ARENA_COMPRESS_"), [(moved, "WORDS".to_string())]);
 }
 
-/// The numbers from 12 to 18 in the comment that stands above a declaration.
+/// The numbers from 12 to 19 in the comment that stands above a declaration; the codes of insertions, 6 to 19, are none.
 fn above(source: &str, declaration: &str) -> Vec<u32> {
     let start = source.find(declaration).unwrap_or_else(|| panic!("{declaration} is not there"));
     let comment = |line: &&str| ["/*", " *", "    ///"].iter().any(|sign| line.starts_with(sign));
     let mut lines: Vec<&str> = source[..start].trim_end().lines().rev().take_while(comment).collect();
     lines.reverse();
-    let numbers = lines.iter().flat_map(|line| line.split(|c: char| !c.is_ascii_digit()));
-    once(numbers.filter_map(|word| word.parse().ok()).filter(|n| (12..=18).contains(n)))
+    let text = lines.join(" ").replace("6 to 19", "");
+    let numbers = text.split(|c: char| !c.is_ascii_digit());
+    once(numbers.filter_map(|word| word.parse().ok()).filter(|n| (12..=19).contains(n)))
 }
 
 /// The numbers in the order in which each comes first.
@@ -252,7 +258,7 @@ fn the_sections_that_the_header_names_are_there() {
 
 /// The numbers that are told under `# Errors` of a method, in their order, behind those of the check, which are told if `checks`.
 fn documented(source: &str, method: &str, checks: bool) -> Vec<u32> {
-    let start = source.find(&format!("    pub fn {method}")).unwrap_or_else(|| panic!("no method {method}"));
+    let start = source.find(&format!("    {method}")).unwrap_or_else(|| panic!("no method {method}"));
     let doc = |line: &&str| line.trim_start().starts_with("//") || line.contains("#[");
     let lines = source[..start].trim_end_matches(' ').lines().rev().take_while(doc);
     let errors: Vec<&str> = lines.take_while(|line| !line.contains("# Errors")).collect();
@@ -270,13 +276,17 @@ fn documented(source: &str, method: &str, checks: bool) -> Vec<u32> {
 }
 
 /// What each call refuses of its own, in its order (REFERENCE, the call's section).
-const ORDER: [(&str, &[u32]); 19] = [
+const ORDER: [(&str, &[u32]); 23] = [
     ("check", &[]),
     ("get_link", &[12]),
     ("get_link_no_gen", &[12]),
     ("are_neighbors", &[]),
     ("walk_start", &[12]),
     ("walk_step", &[]),
+    ("line_of_dot", &[19]),
+    ("line_dots", &[19]),
+    ("due_count", &[12, 19]),
+    ("due_events", &[12, 19, 14]),
     ("connect", &[12, 13, 12, 13]),
     ("break_prev", &[12, 13]),
     ("break_next", &[12, 13]),
@@ -308,36 +318,51 @@ fn each_method_tells_the_numbers_of_its_call() {
             numbers.collect(),
             "{call} in the table"
         );
-        let walk = if call == "walk_step" { read("host/src/walk.rs") } else { String::new() };
-        let source = read(&format!("host/src/{}.rs", level.name)) + &walk;
-        let method = match call {
-            "walk_step" => "step(",
-            "run" => "run_words(",
-            "drain" | "compress_with" | "compress_canonical" => &format!("{call}<"),
-            _ => &format!("{call}("),
+        let elsewhere = match call {
+            "walk_step" => read("host/src/walk.rs"),
+            "line_of_dot" | "line_dots" => read("host/src/clock.rs"),
+            _ => String::new(),
         };
-        // a kind that Rust has typed is never unknown
-        let told = if call == "insert" { &order[1..] } else { order };
-        assert_eq!(documented(&source, method, true), told, "{call}");
+        let source = read(&format!("host/src/{}.rs", level.name)) + &elsewhere;
+        let method = match call {
+            "walk_step" => "pub fn step(",
+            "run" => "pub fn run_words(",
+            // a dot and a line are refused when they are made
+            "line_of_dot" => "fn try_from(dot: u32)",
+            "line_dots" => "fn try_from(line: u32)",
+            "due_events" | "drain" | "compress_with" | "compress_canonical" => &format!("pub fn {call}<"),
+            _ => &format!("pub fn {call}("),
+        };
+        // a kind that Rust has typed is never unknown, and a window is one of the frame
+        let typed =
+            |number: &&u32| matches!((call, **number), ("insert", 16) | ("due_count" | "due_events", 19));
+        let told: Vec<u32> = order.iter().filter(|number| !typed(number)).copied().collect();
+        let checks = !crate::sold::WITHOUT_ARENA.contains(export);
+        assert_eq!(documented(&source, method, checks), told, "{call}");
     }
 }
 
 #[test]
 fn each_method_that_is_no_call_tells_its_numbers() {
-    let [one, two, view] =
-        ["level_one", "level_two", "checked"].map(|name| read(&format!("host/src/{name}.rs")));
-    assert_eq!(documented(&one, "walk(", true), [12]);
-    assert_eq!(documented(&one, "walk_from(", true), []);
-    assert_eq!(documented(&two, "run<", true), []);
+    let [one, two, view, clock] =
+        ["level_one", "level_two", "checked", "clock"].map(|name| read(&format!("host/src/{name}.rs")));
+    assert_eq!(documented(&one, "pub fn walk(", true), [12]);
+    assert_eq!(documented(&one, "pub fn walk_from(", true), []);
+    assert_eq!(documented(&two, "pub fn run<", true), []);
+    assert_eq!(documented(&clock, "pub fn due_events(", true), [12]);
     assert!(two.contains("What is refused of a command is in its answer: 12, 13, 17 or 18."));
     assert!(two.contains("is in its answer word: 12, 13, 17, 18, or 16 for an"));
-    assert_eq!(documented(&view, "checked(&self) -> Result<Checked<'a>", true), []);
-    assert_eq!(documented(&view, "checked(&self) -> Result<Checked<'_>", true), []);
-    for method in ["link(", "link_no_gen(", "payload(", "prev(", "next(", "chain(", "chain_from_first("] {
-        assert_eq!(documented(&view, method, false), [12], "{method}");
+    assert_eq!(documented(&view, "pub fn checked(&self) -> Result<Checked<'a>", true), []);
+    assert_eq!(documented(&view, "pub fn checked(&self) -> Result<Checked<'_>", true), []);
+    for method in ["link", "link_no_gen", "payload", "prev", "next", "chain", "chain_from_first", "due"] {
+        assert_eq!(documented(&view, &format!("pub fn {method}("), false), [12], "{method}");
     }
     assert!(
         one.contains("[`Checked::chain`](crate::Checked::chain) gives the same links"),
         "walk points to the view"
+    );
+    assert!(
+        one.contains("[`Checked::due`](crate::Checked::due) gives the same links"),
+        "due_events points to the view"
     );
 }

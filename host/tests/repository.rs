@@ -1,4 +1,4 @@
-//! The tests that are about the repository: its scripts, its proofs' guards, its declarations, its documents and its package.
+//! The tests that are about the repository: its scripts, its proofs' guards, its declarations, its table of line starts, its documents and its package.
 
 /// The levels that are sold.
 #[path = "../levels.rs"]
@@ -9,5 +9,6 @@ mod build_script;
 mod gate;
 mod guards;
 mod layout;
+mod line_starts;
 mod package;
 mod readme;

@@ -150,10 +150,10 @@ fn every_number_has_its_name_and_words() {
         assert!(!seen.contains(&words));
         seen.push(words);
     }
-    assert_eq!(seen.len(), 18);
+    assert_eq!(seen.len(), 19);
     assert_eq!(Done::answer(0), Ok(Done { overflowed: false }));
     assert_eq!(Done::answer(100), Ok(Done { overflowed: true }));
-    for number in [19, 99, 101, u32::MAX] {
+    for number in [20, 99, 101, u32::MAX] {
         let refusal = Done::answer(number).unwrap_err();
         assert_eq!((refusal.kind(), refusal.number()), (RefusalKind::Unknown, number));
         assert_eq!(
@@ -213,7 +213,8 @@ fn refusals(arena: &OwnedArena) -> Refused {
         assert_eq!(columns, *arena, "{name}");
         let level = crate::sold::LEVELS.iter().find(|level| level.name == *name).unwrap();
         let tried = |export: &str| refused.iter().any(|(call, _)| export == format!("chain_arena_{call}"));
-        assert!(level.exports.iter().all(|export| tried(export)), "a call of {name} is not tried");
+        let mut of_arena = level.exports.iter().filter(|export| !crate::sold::WITHOUT_ARENA.contains(export));
+        assert!(of_arena.all(|export| tried(export)), "a call of {name} is not tried");
         all.extend(refused);
     }
     all
@@ -260,14 +261,14 @@ fn what_a_call_refuses_of_its_own_names_no_slot() {
 
 #[cfg(feature = "level-one")]
 mod level_one {
-    use chain_arena::{Chain, Link, LinkNoGen, Walk};
+    use chain_arena::{Chain, Dot, Line, Link, LinkNoGen, Walk, Window};
 
     use super::*;
 
     /// What every call of the level, and every method that is made of them, is refused with on an arena that the check refuses.
     pub fn refusals(columns: &mut OwnedArena) -> Refused {
         let mut walk = Walk { start: 5, position: 5, direction: 0, left: 4 };
-        let (kept, arena) = (walk, columns.as_arena());
+        let (kept, arena, mut report) = (walk, columns.as_arena(), [9; 5]);
         let refusals = vec![
             ("check", arena.check().unwrap_err()),
             ("get_link", arena.get_link(p(5)).unwrap_err()),
@@ -277,11 +278,14 @@ mod level_one {
             ("walk_step", walk.step(&arena).unwrap_err()),
             ("walk", arena.walk(p(5)).unwrap_err()),
             ("walk_from", arena.walk_from(walk).unwrap_err()),
+            ("due_count", arena.due_count(p(5), Window::FRAME).unwrap_err()),
+            ("due_events", arena.due_events(p(5), Window::FRAME, &mut report).unwrap_err()),
+            ("due_events, owned", columns.due_events(p(5), Window::FRAME).unwrap_err()),
             ("checked", arena.checked().unwrap_err()),
             ("checked, owned", columns.checked().unwrap_err()),
             ("checked, to edit", columns.as_arena_mut().checked().unwrap_err()),
         ];
-        assert_eq!(walk, kept);
+        assert_eq!((walk, report), (kept, [9; 5]));
         refusals
     }
 
@@ -295,8 +299,15 @@ mod level_one {
             arena.get_link_no_gen(STALE).unwrap_err(),
             arena.walk_start(STALE).unwrap_err(),
             arena.walk(STALE).unwrap_err(),
+            arena.due_count(STALE, Window::FRAME).unwrap_err(),
+            arena.due_events(STALE, Window::FRAME, &mut []).unwrap_err(),
+            arena.due_events(p(5), Window::FRAME, &mut [9]).unwrap_err(),
+            columns.due_events(STALE, Window::FRAME).unwrap_err(),
             checked.link(STALE).unwrap_err(),
             checked.chain(STALE).unwrap_err(),
+            checked.due(STALE, Window::FRAME).map(|_| ()).unwrap_err(),
+            Dot::try_from(Dot::COUNT).unwrap_err(),
+            Line::try_from(Line::COUNT).unwrap_err(),
         ]
     }
 
@@ -442,7 +453,15 @@ mod level_one {
             walk.step(&arena),
             arena.walk(p).map(Iterator::count),
         );
+        let window = Window::of(noise() % 60, noise() % 60).unwrap();
+        let mut report = vec![0; noise() as usize % 7];
+        let _ = (
+            arena.due_count(p, window),
+            arena.due_events(p, window, &mut report).map(|due| due.events().count()),
+            columns.due_events(q, window),
+        );
         let Ok(checked) = arena.checked() else { return false };
+        assert_eq!(arena.due_count(p, window), checked.due(p, window).map(Iterator::count));
         let _ = (checked.link(p), checked.chain(p).map(Iterator::count), checked.chain_from_first(q));
         let (chains, links) = (checked.chains().flatten().count(), checked.links().count());
         assert_eq!((chains, links), (checked.len(), checked.len()));

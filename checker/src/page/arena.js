@@ -1,6 +1,6 @@
 'use strict';
 
-// An arena as the page's data have it: words by slot, rows, faults.
+// An arena as the page's data have it: words by slot, rows, faults, what is due.
 
 /** The kinds of rows, by their numbers in the data. */
 const [OPEN, LONE, CLOSED, FREELIST, UNLISTED] = [0, 1, 2, 3, 4];
@@ -32,6 +32,7 @@ class Arena {
     this.order = words(data.order);
     this.readRows(words(data.kinds), words(data.lengths));
     this.readFaults(words(data.faults), data.sentences);
+    this.readDue(words(data.due), words(data.dueLines), words(data.duePlaces));
   }
 
   /** Reads the rows, and in which row and at which place each slot stands. */
@@ -60,6 +61,11 @@ class Arena {
       if (!this.faultsOf.has(fault.slot)) this.faultsOf.set(fault.slot, []);
       this.faultsOf.get(fault.slot).push(fault);
     }
+  }
+
+  /** Reads the links that are due: which one each is, from 1 on, its line, and its place there. */
+  readDue(slots, lines, places) {
+    this.due = new Map(Array.from(slots, (slot, k) => [slot, { number: k + 1, line: lines[k], place: places[k] }]));
   }
 
   /** A word of a slot; one that is not there reads as 0. */

@@ -63,6 +63,8 @@ class Card {
     } else {
       facts.push(['Free', row.kind === FREELIST ? `on the freelist, ${place}` : 'not on the freelist']);
     }
+    const due = arena.due.get(slot);
+    if (due) facts.push(['Due', `${due.number} of ${arena.due.size}: line ${due.line}, place ${due.place}`]);
     const from = arena.isLink(slot) && arena.whereFrom[slot - 1];
     if (from) facts.push(['Came from', `slot ${from}`]);
     if (whereTo?.[slot]) facts.push(['Went to', `slot ${whereTo[slot]}`]);

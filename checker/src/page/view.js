@@ -215,6 +215,7 @@ class View {
     node.append(element('b', '', most.slot), element('span', '', missing ? 'missing' : most.payload));
     if (most.generation > 0) node.append(element('small', '', `gen ${most.generation}`));
     if (most.tie > 0) node.append(element('small', '', `from ${most.tie}`));
+    if (arena.due.size > 0) node.append(element('small', 'due-number', `due ${arena.due.size}`));
     return node;
   }
 
@@ -356,6 +357,9 @@ class View {
     }
     const tie = this.tieOf(slot);
     if (tie) node.append(element('small', 'tie', `${tie.word} ${tie.slot}`));
+    const due = arena.due.get(slot);
+    if (due) node.append(element('small', 'due-number', `due ${due.number}`));
+    node.classList.toggle('due', due !== undefined);
     node.classList.toggle('free', !arena.isLink(slot));
     node.classList.toggle('broken', arena.faultsOf.has(slot));
     node.id = `panel-${this.number}-slot-${slot}`;
