@@ -1,8 +1,8 @@
 //! Random calls with random arguments, on any arena.
 
 use crate::random::Random;
-use crate::words::{CALLS_IN_ALL, INSERT};
-use crate::{Arena, COMMAND_WORDS, Call, Ptr, Reading, Walk, kind, model};
+use crate::words::{CALLS_IN_ALL, DUE_COUNT, DUE_EVENTS, INSERT, LINE_DOTS, LINE_OF_DOT, calls_on_arenas};
+use crate::{Arena, COMMAND_WORDS, Call, Ptr, Reading, Walk, frame, kind, model, random};
 
 /// The header's word, 0 if the header has none.
 fn word(a: &Arena, place: usize) -> usize {
@@ -143,8 +143,53 @@ fn some_run(r: &mut Random, a: &Arena) -> Call {
     Call::Run(words, vec![r.word(); answers])
 }
 
+/// An end of a window: near the payload of a link, if that is a dot, else any dot.
+fn some_end(r: &mut Random, a: &Arena) -> u32 {
+    let dot = random::some_dot(r);
+    let payloads = &a.payload[..stack(a).min(a.payload.len())];
+    if payloads.is_empty() || r.once_in(3) {
+        return dot;
+    }
+    let payload = r.pick(payloads);
+    let near = r.pick(&[payload, payload, payload.saturating_add(1), payload.saturating_sub(1)]);
+    if payload < frame::DOTS { near } else { dot }
+}
+
+/// The ends of a window, seldom the same one twice.
+fn some_window(r: &mut Random, a: &Arena) -> (u32, u32) {
+    let (from, to) = (some_end(r, a), some_end(r, a));
+    if r.once_in(12) { (from, from) } else { (from, to) }
+}
+
+/// A line, seldom one that there is not.
+fn some_line(r: &mut Random) -> u32 {
+    let line = r.below(frame::LINES as usize) as u32;
+    if r.once_in(8) { r.pick(&[frame::LINES, frame::LINES + 1, line + 65_536, u32::MAX]) } else { line }
+}
+
+/// How many links the chain of a pointer has, on any arena: at most as many as there are.
+fn chain_length(a: &Arena, p: Ptr) -> usize {
+    let along = |column: &[u16]| {
+        let mut slots = 0;
+        let mut s = word_at(column, p.slot).unwrap_or(0);
+        while s != 0 && s != p.slot && slots < links(a) {
+            slots += 1;
+            s = word_at(column, s).unwrap_or(0);
+        }
+        (slots, s != 0)
+    };
+    let (after, closed) = along(&a.next);
+    if closed { after + 1 } else { along(&a.prev).0 + 1 + after }
+}
+
+/// A report for the links of a chain that are due: too short, as long as the chain, or longer.
+fn some_events(r: &mut Random, a: &Arena, p: Ptr) -> Vec<u16> {
+    let (chain, noise) = (chain_length(a, p), r.word() as u16);
+    vec![noise; r.pick(&[0, chain.saturating_sub(1), chain, chain, chain + 1, chain + 3])]
+}
+
 /// How often each call is made, by its code; insertions so often that arenas are filled again and again.
-const OFTEN: [usize; CALLS_IN_ALL] = [1, 4, 3, 3, 3, 10, 12, 3, 3, 8, 6, 1, 1, 1, 1, 1, 1, 1, 12];
+const OFTEN: [usize; CALLS_IN_ALL] = [1, 4, 3, 3, 3, 10, 12, 3, 3, 8, 6, 1, 1, 1, 1, 1, 1, 1, 12, 1, 1, 3, 4];
 
 /// A random call.
 pub fn some_call(r: &mut Random, a: &Arena, kept: &[Walk]) -> Call {
@@ -157,9 +202,9 @@ pub fn some_call(r: &mut Random, a: &Arena, kept: &[Walk]) -> Call {
     call_of(code, r, a, kept)
 }
 
-/// Each of the calls once.
+/// Each of the calls that take an arena once.
 pub fn each_call(r: &mut Random, a: &Arena) -> impl Iterator<Item = Call> {
-    (1..=OFTEN.len()).map(move |code| call_of(code, r, a, &[]))
+    calls_on_arenas().map(move |code| call_of(code, r, a, &[]))
 }
 
 /// The call of a code with random arguments.
@@ -192,11 +237,38 @@ pub fn call_of(code: usize, r: &mut Random, a: &Arena, kept: &[Walk]) -> Call {
             let (p, q) = some_place(r, a, kind, p, q);
             Call::Insert(kind, p, q, some_payload(r))
         }
+        LINE_OF_DOT => Call::LineOfDot(random::some_dot(r)),
+        LINE_DOTS => Call::LineDots(some_line(r)),
+        DUE_COUNT => {
+            let (from, to) = some_window(r, a);
+            Call::DueCount(p, from, to)
+        }
+        DUE_EVENTS => {
+            let (from, to) = some_window(r, a);
+            Call::DueEvents(p, from, to, some_events(r, a, p))
+        }
         _ => {
             let places = if r.once_in(8) { a.capacity() + 1 } else { a.capacity() };
             Call::CompressCanonical(r.below(2) as u32, vec![noise as u16; places])
         }
     }
+}
+
+/// The call with dots for most payloads of the links that it inserts, but for 0 and the largest.
+pub fn with_dots(r: &mut Random, mut call: Call) -> Call {
+    let mut change = |payload: &mut u32| {
+        if !matches!(*payload, 0 | u32::MAX) && !r.once_in(4) {
+            *payload = random::some_dot(r);
+        }
+    };
+    match &mut call {
+        Call::Insert(.., payload) => change(payload),
+        Call::Run(words, _) => {
+            words.chunks_exact_mut(COMMAND_WORDS).for_each(|command| change(&mut command[5]));
+        }
+        _ => {}
+    }
+    call
 }
 
 /// Keeps the state that a walk's start or step leaves, for a later step on an arena that may have changed.

@@ -1,8 +1,8 @@
 //! Cases taken whole: every small arena, every tuple of words, every call with every pointer.
 
 use crate::calls::command;
-use crate::random::Random;
-use crate::{Arena, COMMAND_WORDS, Call, Ptr, Reading, Walk, kind, model};
+use crate::random::{self, Random};
+use crate::{Arena, COMMAND_WORDS, Call, Ptr, Reading, Walk, frame, kind, model};
 
 /// How many arenas of stack length 0, 1, and so on up to 6 pass the check.
 pub const COUNTS: [usize; 7] = [1, 3, 13, 73, 501, 4_051, 37_633];
@@ -449,6 +449,121 @@ pub fn each_compression(a: &Arena, mut found: impl FnMut(Call)) {
         }
         for places in [a.capacity().saturating_sub(1), a.capacity(), a.capacity() + 1] {
             found(Call::CompressCanonical(reset, vec![0xbeef; places]));
+        }
+    }
+}
+
+/// Numbers where an answer about the frame can change: around dot 0, the ends of the first two lines, of one in the middle and
+/// of the last, around the frame's end, and some far past it.
+pub fn frame_edges() -> Vec<u32> {
+    let lines = [0, 1, 2, 131, frame::LINES - 1, frame::LINES].map(|line| line * frame::LINE_DOTS);
+    let near = lines.into_iter().flat_map(|dot| dot.saturating_sub(2)..=dot + 2);
+    let far = [65_535, 65_536, 65_536 + frame::DOTS, 2 * frame::DOTS, 1 << 31, u32::MAX];
+    near.chain(far).collect()
+}
+
+/// Numbers far past the last line and the last dot, or the lower half of which is a line or a dot.
+const FAR: [u32; 11] = [
+    65_535,
+    65_536,
+    65_536 + frame::LINES - 1,
+    1 << 17,
+    2 * frame::DOTS,
+    (1 << 17) + frame::DOTS - 1,
+    1 << 24,
+    1 << 31,
+    u32::MAX - frame::LINE_DOTS,
+    u32::MAX - 1,
+    u32::MAX,
+];
+
+/// Every line, and numbers past the last one.
+pub fn lines() -> impl Iterator<Item = u32> {
+    (0..2 * frame::LINES).chain(FAR)
+}
+
+/// Every dot, and numbers past the last one.
+pub fn dots() -> impl Iterator<Item = u32> {
+    (0..frame::DOTS + 5_000).chain(FAR)
+}
+
+/// An arena of two chains, open or closed, each of them with a link for every edge of the frame. The slots of a chain lie
+/// anywhere, and so do the payloads along it.
+pub fn edge_chains(closed: bool) -> Arena {
+    let edges = frame_edges();
+    let mut r = Random::new(edges.len() as u64);
+    let style = random::Style {
+        free: 0,
+        longest: edges.len(),
+        even: true,
+        scattered: true,
+        closed: if closed { 16 } else { 0 },
+    };
+    let mut a = random::whole(&mut r, 2 * edges.len() + 5, 2 * edges.len(), style);
+    let mut rest: Vec<usize> = a.link_slots().collect();
+    while let Some(&s) = rest.first() {
+        let chain = model::chain_of(&a, s);
+        let mut payloads = edges.clone();
+        r.shuffle(&mut payloads);
+        for (&s, payload) in chain.iter().zip(payloads) {
+            a.payload[s - 1] = payload;
+        }
+        rest.retain(|s| !chain.contains(s));
+    }
+    a
+}
+
+/// Every arena of a stack length that passes the check, with four kinds of payloads: rising dots, the ends of lines and of the
+/// frame, dots and numbers past them, and the same dot throughout.
+pub fn clocked_arenas(length: usize) -> Vec<Arena> {
+    const LAST: u32 = frame::DOTS - 1;
+    const PAYLOADS: [[u32; 5]; 4] =
+        [[100, 200, 300, 400, 500], [340, 341, 0, LAST, 682], [LAST + 1, 5, u32::MAX, LAST, 65_541], [7; 5]];
+    let mut arenas = dressed_arenas(length);
+    for (a, payloads) in arenas.iter_mut().zip(PAYLOADS.iter().cycle()) {
+        for s in a.link_slots().collect::<Vec<usize>>() {
+            a.payload[s - 1] = payloads[(s - 1) % payloads.len()];
+        }
+    }
+    arenas
+}
+
+/// Windows for the payloads of an arena's links: the whole frame, those that begin or end with a payload or right behind it, and
+/// some with an end that is none.
+fn windows(a: &Arena) -> Vec<(u32, u32)> {
+    let mut dots: Vec<u32> = a.link_slots().map(|s| a.payload[s - 1]).filter(|&v| v < frame::DOTS).collect();
+    dots.sort_unstable();
+    dots.dedup();
+    let mut windows = vec![
+        (0, frame::DOTS),
+        (frame::DOTS, 0),
+        (0, frame::DOTS + 1),
+        (frame::DOTS, frame::DOTS + 1),
+        (9, u32::MAX),
+    ];
+    for &dot in &dots {
+        windows.extend([(dot, dot + 1), (dot + 1, dot)]);
+        windows.extend(dots.iter().map(|&other| (dot, other)));
+    }
+    windows
+}
+
+/// What is due of every chain from every start, and of stale pointers, in every window for the arena's payloads: the count, and
+/// the events in reports that are empty, as long as the events, one word shorter than the chain, as long as it, and one longer.
+pub fn each_due(a: &Arena, mut found: impl FnMut(Call)) {
+    let windows = windows(a);
+    for p in pointers(a) {
+        let stale = !a.is_link(p.slot.into());
+        let chain = if stale { vec![] } else { model::chain_of(a, p.slot.into()) };
+        for &(from, to) in &windows {
+            found(Call::DueCount(p, from, to));
+            let due = chain.iter().filter(|&&s| model::is_due(a.payload[s - 1], from, to)).count();
+            let mut rooms = vec![0, due, chain.len().saturating_sub(1), chain.len(), chain.len() + 1];
+            rooms.sort_unstable();
+            rooms.dedup();
+            for words in rooms {
+                found(Call::DueEvents(p, from, to, vec![0xbeef; words]));
+            }
         }
     }
 }

@@ -60,7 +60,7 @@ pub struct Counts {
     pub with_crate: u64,
     /// Cases that were asked of an exported call
     pub with_exports: u64,
-    /// Cases by the model's number, 0 to 18 and 100
+    /// Cases by the model's number, 0 to 19 and 100
     pub numbers: [u64; 101],
     /// Cases with 11 whose slot is broken at its prev, and at its next alone
     pub sides: [u64; 2],
@@ -224,7 +224,8 @@ pub fn export_outcome(before: &Arena, call: &Call) -> Option<Answer> {
     Some(Ok(Outcome { reply, call, arena }))
 }
 
-/// What the call leaves if it is made through the safe wrapper, if its level is linked and the wrapper can name its kind.
+/// What the call leaves if it is made through the safe wrapper, if its level is linked and the wrapper can name its kind or its
+/// window.
 pub fn wrapper_outcome(before: &Arena, call: &Call) -> Option<Outcome> {
     let (mut arena, mut call) = (before.clone(), call.clone());
     let reply = wrapper::perform(&mut arena, &mut call)?;

@@ -15,7 +15,7 @@ use crate_text::{
 };
 
 use crate::header::{GENERATION, LINKS, ROOT, STACK};
-use crate::{Arena, COMMAND_WORDS, Call, LIMIT, Ptr, Reading, Reply, Walk, kind};
+use crate::{Arena, COMMAND_WORDS, Call, LIMIT, Ptr, Reading, Reply, Walk, frame, kind};
 
 crate_text::ptr_struct!(P0[NonZeroU16](NonZeroU32));
 
@@ -174,8 +174,8 @@ impl CrateArena {
         a
     }
 
-    /// Makes one call on an arena that passes the check, or none where the crate has no such call: 14, 15 and 16, and
-    /// states of a walk and pointers of an insertion that its types cannot hold.
+    /// Makes one call on an arena that passes the check, or none where the crate has no such call: 14, 15, 16 and 19, lines of
+    /// a frame, and states of a walk and pointers of an insertion that its types cannot hold.
     pub fn perform(&mut self, call: &mut Call) -> Option<Reply> {
         self.taken.clear();
         Some(match call {
@@ -209,6 +209,9 @@ impl CrateArena {
             Call::CompressWith(reset, report) => self.compress_with(*reset != 0, report)?,
             Call::CompressCanonical(reset, from) => self.compress_canonical(*reset != 0, from)?,
             Call::Insert(kind, p, q, payload) => self.insert(*kind, *p, *q, *payload)?,
+            Call::LineOfDot(_) | Call::LineDots(_) => return None,
+            Call::DueCount(p, from, to) => self.due(*p, *from, *to, None)?,
+            Call::DueEvents(p, from, to, report) => self.due(*p, *from, *to, Some(report))?,
         })
     }
 
@@ -261,6 +264,29 @@ impl CrateArena {
     pub fn sum_chain(&self, p: Ptr) -> Option<u64> {
         let links = self.chain.iter_chain(held(p)?)?;
         Some(links.map(|(p, link)| u64::from(p.inx().get()) + u64::from(link.t)).sum())
+    }
+
+    /// The links that are due along the crate's own walk, counted and, if there is a report, reported; none if the window is
+    /// not one of the frame or the report is shorter than the chain. A payload is due if it is a dot and comes, counted round
+    /// the frame from the window's start, before the window's end.
+    fn due(&self, p: Ptr, from: u32, to: u32, mut report: Option<&mut Vec<u16>>) -> Option<Reply> {
+        let Some(links) = held(p).and_then(|p| self.chain.iter_chain(p)) else {
+            return Some(Reply::number(12));
+        };
+        let links: Vec<(P0, u32)> = links.map(|(p, link)| (p, link.t)).collect();
+        if from >= frame::DOTS || to > frame::DOTS || report.as_ref().is_some_and(|r| r.len() < links.len()) {
+            return None;
+        }
+        let round = |dot: u32| (dot + frame::DOTS - from) % frame::DOTS;
+        let length = if from == 0 { to } else { round(to) };
+        let mut count = 0;
+        for (p, _) in links.iter().filter(|(_, payload)| *payload < frame::DOTS && round(*payload) < length) {
+            if let Some(report) = &mut report {
+                report[count] = p.inx().get();
+            }
+            count += 1;
+        }
+        Some(Reply::new(0, &[count as u32]))
     }
 
     /// One step of an advancer that is put into the state, or none where it cannot be.
@@ -463,6 +489,38 @@ impl CrateArena {
     }
 
     // For measuring: the crate's calls and nothing else; drain_chain and compress_with are such calls too.
+
+    /// How many links the arena has.
+    pub fn links(&self) -> usize {
+        self.chain.len()
+    }
+
+    /// Visits the links of the pointer's chain by the crate's own iterator: slot and payload.
+    pub fn visit_by_walk(&self, p: Ptr, mut visit: impl FnMut(u16, u32)) -> Option<()> {
+        self.chain.iter_chain(held(p)?)?.for_each(|(p, link)| visit(p.inx().get(), link.t));
+        Some(())
+    }
+
+    /// Visits the same links in the same order by their slots alone, which looks each of them up once and not twice.
+    pub fn visit_by_slots(&self, p: Ptr, mut visit: impl FnMut(u16, u32)) -> Option<()> {
+        let (p, start) = held(p).and_then(|p| Some((p.inx(), self.chain.get_link_no_gen(p)?)))?;
+        let (mut inx, mut link) = (p, start);
+        loop {
+            visit(inx.get(), link.t);
+            match link.next() {
+                None => break,
+                Some(next) if next == p => return Some(()),
+                Some(next) => (inx, (_, link)) = (next, self.chain.get_inx_link_no_gen(next)?),
+            }
+        }
+        let mut before = start.prev();
+        while let Some(inx) = before {
+            (_, link) = self.chain.get_inx_link_no_gen(inx)?;
+            visit(inx.get(), link.t);
+            before = link.prev();
+        }
+        Some(())
+    }
 
     /// Makes edits one after the other, and writes 0 for each that is done, else 1.
     pub fn edit(&mut self, edits: &[Edit], answers: &mut [u32]) {

@@ -52,8 +52,8 @@ pub fn check(a: &Arena) -> Reply {
 
 /// The calls of Level One.
 #[rustfmt::skip]
-fn level_one(a: &Arena, call: &Call, guard: usize) -> Option<Reply> {
-    Some(match *call {
+fn level_one(a: &Arena, call: &mut Call, guard: usize) -> Option<Reply> {
+    Some(match call {
         Call::Check => call!(chain_arena_check(a, guard, as_ptr)),
         Call::GetLink(p) => {
             call!(chain_arena_get_link(a, guard, as_ptr, p.slot, p.generation) prev prev_generation next next_generation payload)
@@ -70,6 +70,23 @@ fn level_one(a: &Arena, call: &Call, guard: usize) -> Option<Reply> {
         Call::WalkStep(walk) => {
             call!(chain_arena_walk_step(a, guard, as_ptr, walk.start, walk.position, walk.direction, walk.left)
                 slot generation start position direction left)
+        }
+        Call::LineOfDot(dot) => {
+            // Safety: a number goes in, numbers come back.
+            let answer = unsafe { chain_arena::ffi::chain_arena_line_of_dot(*dot) };
+            Reply::new(answer.number, &[answer.line])
+        }
+        Call::LineDots(line) => {
+            // Safety: as above.
+            let answer = unsafe { chain_arena::ffi::chain_arena_line_dots(*line) };
+            Reply::new(answer.number, &[answer.first, answer.last])
+        }
+        Call::DueCount(p, from, to) => {
+            call!(chain_arena_due_count(a, guard, as_ptr, p.slot, p.generation, *from, *to) count)
+        }
+        Call::DueEvents(p, from, to, report) => {
+            call!(chain_arena_due_events(a, guard, as_ptr, p.slot, p.generation, *from, *to, report.as_mut_ptr().add(guard),
+                report.len() - 2 * guard) count)
         }
         _ => return None,
     })

@@ -41,6 +41,7 @@ fn fenced_call(call: &Call) -> Call {
         Call::Run(commands, answers) => Call::Run(fenced(commands, WIDE), fenced(answers, WIDE)),
         Call::CompressWith(reset, report) => Call::CompressWith(*reset, fenced(report, WIDE)),
         Call::CompressCanonical(reset, from) => Call::CompressCanonical(*reset, fenced(from, NARROW)),
+        Call::DueEvents(p, from, to, report) => Call::DueEvents(*p, *from, *to, fenced(report, NARROW)),
         _ => call.clone(),
     }
 }
@@ -50,7 +51,7 @@ fn freed_call(call: &mut Call) -> bool {
     match call {
         Call::Drain(_, words) | Call::CompressWith(_, words) => freed(words, WIDE),
         Call::Run(commands, answers) => freed(commands, WIDE) & freed(answers, WIDE),
-        Call::CompressCanonical(_, places) => freed(places, NARROW),
+        Call::CompressCanonical(_, words) | Call::DueEvents(.., words) => freed(words, NARROW),
         _ => true,
     }
 }
@@ -87,14 +88,18 @@ mod tests {
     use super::*;
     use crate::Reply;
 
-    /// What is said of a call that changes a fenced arena and a fenced call in one place.
+    /// What is said of a compression that changes a fenced arena and its fenced call in one place.
     fn said(change: impl Fn(&mut Arena, &mut Call)) -> Answer {
-        let call = Call::CompressCanonical(0, vec![4; 2]);
+        said_of(&Call::CompressCanonical(0, vec![4; 2]), change)
+    }
+
+    /// The same of any call.
+    fn said_of(call: &Call, change: impl Fn(&mut Arena, &mut Call)) -> Answer {
         let perform = |a: &mut Arena, call: &mut Call, _: usize| {
             change(a, call);
             Some(Reply::number(0))
         };
-        outcome_by(perform, &Arena::empty(2), &call).expect("it answers")
+        outcome_by(perform, &Arena::empty(2), call).expect("it answers")
     }
 
     #[test]
@@ -114,6 +119,29 @@ mod tests {
         }
         assert!(said(|a, _| a.header[GUARD - 1] = 1).is_err());
         assert!(said(|a, _| a.header[GUARD + 4] = 1).is_err());
+    }
+
+    #[test]
+    fn a_word_next_to_each_lent_slice_is_seen() {
+        let p = crate::Ptr { slot: 1, generation: 5 };
+        let calls = [
+            Call::Drain(p, vec![4; 2]),
+            Call::Run(vec![], vec![4; 2]),
+            Call::CompressWith(0, vec![4; 2]),
+            Call::CompressCanonical(0, vec![4; 2]),
+            Call::DueEvents(p, 0, 1, vec![4; 2]),
+        ];
+        for (call, place) in calls.iter().flat_map(|call| (0..2 * GUARD + 2).map(move |place| (call, place)))
+        {
+            let written = said_of(call, |_, call| match call {
+                Call::Drain(_, words) | Call::Run(_, words) | Call::CompressWith(_, words) => {
+                    words[place] = 1
+                }
+                Call::CompressCanonical(_, words) | Call::DueEvents(.., words) => words[place] = 1,
+                _ => unreachable!("a call that lends nothing"),
+            });
+            assert_eq!(written.is_ok(), (GUARD..GUARD + 2).contains(&place), "{call:?}");
+        }
     }
 
     #[test]

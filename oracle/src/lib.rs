@@ -14,6 +14,7 @@ pub mod demand3;
 pub mod exports;
 pub mod guards;
 pub mod model;
+pub mod payloads;
 pub mod random;
 pub mod runner;
 pub mod sections;
@@ -43,6 +44,17 @@ pub mod side {
     pub const PREV: u32 = 1;
     /// Its next
     pub const NEXT: u32 = 2;
+}
+
+/// The frame that the payloads are dots of (REFERENCE, Frame clock).
+pub mod frame {
+    /// Its lines
+    pub const LINES: u32 = 262;
+    /// The dots of a line
+    pub const LINE_DOTS: u32 = 341;
+    /// All its dots, of which the last is one less
+    pub const DOTS: u32 = 89_342;
+    const _: () = assert!(LINES * LINE_DOTS == DOTS);
 }
 
 /// How many words a command of a run has: a code, the slots and generations of two pointers, a payload.
@@ -170,6 +182,14 @@ pub enum Call {
     CompressCanonical(u32, Vec<u16>),
     /// The kind, its two pointers and the payload
     Insert(u32, Ptr, Ptr, u32),
+    /// The dot
+    LineOfDot(u32),
+    /// The line
+    LineDots(u32),
+    /// The pointer and the window's two ends
+    DueCount(Ptr, u32, u32),
+    /// The pointer, the window's two ends and the report
+    DueEvents(Ptr, u32, u32, Vec<u16>),
 }
 
 impl Call {
@@ -181,10 +201,19 @@ impl Call {
             | Self::GetLinkNoGen(_)
             | Self::AreNeighbors(..)
             | Self::WalkStart(_)
-            | Self::WalkStep(_) => 1,
+            | Self::WalkStep(_)
+            | Self::LineOfDot(_)
+            | Self::LineDots(_)
+            | Self::DueCount(..)
+            | Self::DueEvents(..) => 1,
             Self::CompressWith(..) | Self::CompressCanonical(..) => 3,
             _ => 2,
         }
+    }
+
+    /// Whether the call is made on an arena.
+    pub fn takes_arena(&self) -> bool {
+        !matches!(self, Self::LineOfDot(_) | Self::LineDots(_))
     }
 }
 

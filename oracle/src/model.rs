@@ -2,11 +2,11 @@
 //! crate does not tell, as 12 from 13.
 
 use crate::header::{GENERATION, LINKS, ROOT, STACK};
-use crate::{Arena, COMMAND_WORDS, Call, LIMIT, Ptr, Reading, Reply, Walk, kind, side};
+use crate::{Arena, COMMAND_WORDS, Call, LIMIT, Ptr, Reading, Reply, Walk, frame, kind, side};
 
-/// Makes one call, which begins with the check (REFERENCE, Replies).
+/// Makes one call, which begins with the check if it takes an arena (REFERENCE, Replies).
 pub fn perform(a: &mut Arena, call: &mut Call) -> Reply {
-    let number = check(a);
+    let number = if call.takes_arena() { check(a) } else { 0 };
     if number != 0 {
         return refused(a, number, call);
     }
@@ -30,6 +30,10 @@ pub fn perform(a: &mut Arena, call: &mut Call) -> Reply {
         Call::CompressWith(reset, report) => Reply::number(compress_with(a, *reset != 0, report)),
         Call::CompressCanonical(reset, from) => Reply::number(compress_canonical(a, *reset != 0, from)),
         Call::Insert(kind, p, q, payload) => insert(a, *kind, *p, *q, *payload),
+        Call::LineOfDot(dot) => line_of_dot(*dot),
+        Call::LineDots(line) => line_dots(*line),
+        Call::DueCount(p, from, to) => due_count(a, *p, *from, *to),
+        Call::DueEvents(p, from, to, report) => due_events(a, *p, *from, *to, report),
     }
 }
 
@@ -225,6 +229,71 @@ pub fn chain_of(a: &Arena, s: usize) -> Vec<usize> {
         }
     }
     slots
+}
+
+// REFERENCE, Frame clock
+
+/// The first and the last dot of each line, counted up line by line.
+fn lines() -> impl Iterator<Item = (u32, u32)> {
+    let mut next = 0;
+    (0..frame::LINES).map(move |_| {
+        let first = next;
+        next += frame::LINE_DOTS;
+        (first, next - 1)
+    })
+}
+
+/// The line that has the dot.
+fn line_of_dot(dot: u32) -> Reply {
+    let line = lines().position(|(first, last)| (first..=last).contains(&dot));
+    line.map_or(Reply::number(19), |line| Reply::new(0, &[line as u32]))
+}
+
+/// The first and the last dot of the line.
+fn line_dots(line: u32) -> Reply {
+    lines().nth(line as usize).map_or(Reply::number(19), |(first, last)| Reply::new(0, &[first, last]))
+}
+
+/// Whether a payload is due in a window whose ends are in the frame: it is one of the dots from the start up to the end, or if
+/// the end comes before the start, from the start up to the frame's end and from dot 0 up to the end.
+pub fn is_due(payload: u32, from: u32, to: u32) -> bool {
+    let dots = if from <= to { [from..to, 0..0] } else { [from..frame::DOTS, 0..to] };
+    dots.iter().any(|dots| dots.contains(&payload))
+}
+
+/// The chain's slots in the walk's order, and those of them that are due; or the number of the refusal.
+fn due(a: &Arena, p: Ptr, from: u32, to: u32) -> Result<(Vec<usize>, Vec<usize>), u32> {
+    if stale(a, p) {
+        return Err(12);
+    }
+    if from > frame::DOTS - 1 || to > frame::DOTS {
+        return Err(19);
+    }
+    let chain = chain_of(a, p.slot as usize);
+    let events = chain.iter().copied().filter(|&s| is_due(a.payload[s - 1], from, to)).collect();
+    Ok((chain, events))
+}
+
+/// How many links of the chain are due.
+fn due_count(a: &Arena, p: Ptr, from: u32, to: u32) -> Reply {
+    match due(a, p, from, to) {
+        Err(number) => Reply::number(number),
+        Ok((_, events)) => Reply::new(0, &[events.len() as u32]),
+    }
+}
+
+/// Reports the slots of the links that are due, if the report has room for the whole chain.
+fn due_events(a: &Arena, p: Ptr, from: u32, to: u32, report: &mut [u16]) -> Reply {
+    match due(a, p, from, to) {
+        Err(number) => Reply::number(number),
+        Ok((chain, _)) if report.len() < chain.len() => Reply::number(14),
+        Ok((_, events)) => {
+            for (word, &s) in report.iter_mut().zip(&events) {
+                *word = s as u16;
+            }
+            Reply::new(0, &[events.len() as u32])
+        }
+    }
 }
 
 // REFERENCE, Connect, Break and Exchange

@@ -1,7 +1,7 @@
 //! Random arenas from a seed: whole ones of every kind, and damage to them.
 
 use crate::header::{GENERATION, LINKS, ROOT, STACK};
-use crate::{Arena, LIMIT, Reading, model};
+use crate::{Arena, LIMIT, Reading, frame, model};
 
 /// A xorshift generator; the same seed gives the same numbers everywhere.
 pub struct Random(u64);
@@ -195,6 +195,25 @@ fn chain(a: &mut Arena, slots: &[usize], closed: bool) {
         a.prev[s - 1] = if k == 0 { ends.0 } else { slots[k - 1] } as u16;
         a.next[s - 1] = slots.get(k + 1).copied().unwrap_or(ends.1) as u16;
     }
+}
+
+/// A dot: any one of the frame, the first or the last of a line, and seldom one near the frame's end or past it.
+pub fn some_dot(r: &mut Random) -> u32 {
+    let line = frame::LINE_DOTS * r.below(frame::LINES as usize) as u32;
+    let anywhere = r.word();
+    match r.below(12) {
+        0 => r.pick(&[0, frame::DOTS - 2, frame::DOTS - 1, frame::DOTS]),
+        1 => r.pick(&[frame::DOTS, frame::DOTS + 1, 65_536 + line, u32::MAX, anywhere]),
+        2 | 3 => line,
+        4 | 5 => line + frame::LINE_DOTS - 1,
+        _ => r.below(frame::DOTS as usize) as u32,
+    }
+}
+
+/// The arena with dots for its payloads.
+pub fn with_dots(r: &mut Random, mut a: Arena) -> Arena {
+    a.payload.fill_with(|| some_dot(r));
+    a
 }
 
 /// A slot of the stack, or 0 if there is none.

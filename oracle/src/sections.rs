@@ -3,12 +3,16 @@
 
 use std::collections::HashSet;
 
-use crate::calls::{Tide, each_call, keep, mixed_commands, mixed_edits, some_call, some_commands, some_walk};
+use crate::calls::{
+    Tide, call_of, each_call, keep, mixed_commands, mixed_edits, some_call, some_commands, some_walk,
+    with_dots,
+};
 use crate::cases;
 use crate::compare::{Counts, Live, Mismatch, Outcome, Product, compare, model_outcome};
 use crate::random::{self, Near, Random, Style};
 use crate::runner::{Jobs, Judge};
-use crate::{Arena, COMMAND_WORDS, Call, LIMIT, Ptr, Reading, Walk, demand3, kind, model};
+use crate::words::{DUE_COUNT, DUE_EVENTS};
+use crate::{Arena, COMMAND_WORDS, Call, LIMIT, Ptr, Reading, Walk, demand3, kind, model, payloads};
 
 /// The short form is for every run of the gate, the long one for once.
 #[derive(Clone, Copy, PartialEq, Eq)]
@@ -35,8 +39,11 @@ pub struct Section {
     pub jobs: fn(Form) -> Jobs,
 }
 
+/// The sections of calls that take no arena. The crate has nothing like them.
+pub const WITHOUT_CRATE: [&str; 1] = ["lines"];
+
 /// All sections, of all three levels.
-pub const SECTIONS: [Section; 20] = [
+pub const SECTIONS: [Section; 25] = [
     Section {
         name: "tuples",
         what: "the check on every tuple of words of stack length 0 to 3, at two capacities",
@@ -66,6 +73,24 @@ pub const SECTIONS: [Section; 20] = [
         what: "steps of walk states kept while the arena changes under them",
         numbers: &[0],
         jobs: |form| kept_states(form.of(4, 5)),
+    },
+    Section {
+        name: "lines",
+        what: "the line of every dot and the dots of every line, and numbers past them",
+        numbers: &[0, 19],
+        jobs: |_| lines(),
+    },
+    Section {
+        name: "windows",
+        what: "what is due between every two numbers near the ends of lines and of the frame, on chains with payloads there",
+        numbers: &[0, 19],
+        jobs: windows,
+    },
+    Section {
+        name: "due",
+        what: "what is due of every chain of every small arena, from every start, with reports of every length that matters",
+        numbers: &[0, 12, 14, 19],
+        jobs: |form| due(form.of(3, 4)),
     },
     Section {
         name: "edits",
@@ -104,9 +129,15 @@ pub const SECTIONS: [Section; 20] = [
         jobs: |form| small_demand_3(form.of(5, 6)),
     },
     Section {
+        name: "payloads",
+        what: "both compressions of arenas that differ in payloads alone: every small one, and random ones of up to 65,535 slots",
+        numbers: &[0, 14, 100],
+        jobs: |form| other_payloads(form.of(4, 5), form.of(2_000, 40_000)),
+    },
+    Section {
         name: "sequences",
         what: "sequences of 500 calls on arenas of up to 200 slots, generations around 4,294,967,295",
-        numbers: &[0, 12, 13, 14, 15, 16, 17, 18, 100],
+        numbers: &[0, 12, 13, 14, 15, 16, 17, 18, 19, 100],
         jobs: |form| sequences(form.of(2_000, 40_000)),
     },
     Section {
@@ -138,6 +169,12 @@ pub const SECTIONS: [Section; 20] = [
         what: "both compressions of random arenas of up to 65,535 slots, with demand 3 by program",
         numbers: &[0, 100],
         jobs: |form| random_compressions(form.of(3_000, 60_000)),
+    },
+    Section {
+        name: "random_due",
+        what: "what is due of the chains of random arenas of up to 65,535 slots",
+        numbers: &[0, 12, 14, 19],
+        jobs: |form| random_due(form.of(20_000, 400_000)),
     },
     Section {
         name: "damage",
@@ -210,6 +247,83 @@ fn kept_states(longest: usize) -> Jobs {
             }
         });
     })
+}
+
+/// The dots of every line and the line of every dot, and of numbers past them; a job takes some of them.
+fn lines() -> Jobs {
+    let calls = cases::lines().map(Call::LineDots).chain(cases::dots().map(Call::LineOfDot));
+    let (calls, none) = (calls.collect::<Vec<Call>>(), Arena::empty(0));
+    Jobs::new(calls.len().div_ceil(500), move |judge, _, number| {
+        for call in calls.iter().skip(500 * number).take(500) {
+            judge.hold(&none, call);
+        }
+    })
+}
+
+/// What is due between every two edges of the frame on chains that have a payload at each, open and closed: from a few starts, in
+/// the long form from every one. A job takes one start of the window.
+fn windows(form: Form) -> Jobs {
+    let (edges, arenas) = (cases::frame_edges(), [false, true].map(cases::edge_chains));
+    let steps = form.of(17, 1);
+    Jobs::new(edges.len(), move |judge, _, number| {
+        for a in &arenas {
+            for s in a.link_slots().step_by(steps) {
+                let (p, from) = (a.ptr(s), edges[number]);
+                for &to in &edges {
+                    judge.hold(a, &Call::DueCount(p, from, to));
+                    judge.hold(a, &Call::DueEvents(p, from, to, vec![9; edges.len() + 1]));
+                }
+            }
+        }
+    })
+}
+
+/// What is due of every chain of every arena up to a stack length.
+fn due(longest: usize) -> Jobs {
+    let arenas: Vec<Arena> = (0..=longest).flat_map(cases::clocked_arenas).collect();
+    Jobs::new(arenas.len(), move |judge, _, number| {
+        let a = &arenas[number];
+        cases::each_due(a, |call| _ = judge.hold(a, &call));
+    })
+}
+
+/// Compressions of every arena up to a stack length, and of so many random ones, some of them damaged, each also with other
+/// payloads.
+fn other_payloads(longest: usize, count: usize) -> Jobs {
+    let arenas: Vec<Arena> = (0..=longest).flat_map(cases::dressed_arenas).collect();
+    Jobs::new(arenas.len() + count, move |judge, r, number| match arenas.get(number) {
+        Some(a) => cases::each_compression(a, |call| _ = judge.hold_to(ignores_payloads, a, &call)),
+        None => {
+            let most = if number % 400 == 0 { LIMIT } else { r.pick(&[6, 20, 100, 1_000]) };
+            let a = if r.once_in(8) { random::damaged(r, most) } else { random::any_whole(r, most) };
+            let links = if a.header.len() == 4 { a.links().min(a.capacity()) } else { 0 };
+            for reset in [0, 1] {
+                let calls = [
+                    Call::CompressWith(reset, vec![9; 4 * links + 1]),
+                    Call::CompressCanonical(reset, vec![9; a.capacity()]),
+                ];
+                calls.iter().for_each(|call| _ = judge.hold_to(ignores_payloads, &a, call));
+            }
+        }
+    })
+}
+
+/// Compares a compression and the same of the arena with other payloads, and holds the two to each other.
+fn ignores_payloads(
+    product: Product,
+    before: &Arena,
+    call: &Call,
+    counts: &mut Counts,
+) -> Result<Outcome, Box<Mismatch>> {
+    let other = payloads::with_other_payloads(before);
+    let first = compare(product, before, call, counts)?;
+    let second = compare(product, &other, call, counts)?;
+    match payloads::broken((before, &first), (&other, &second)) {
+        None => Ok(first),
+        Some(point) => {
+            Err(Mismatch::new("export", before, call, Some(first), Err(format!("not so: {point}"))))
+        }
+    }
 }
 
 /// Demand 3 on every arena up to a stack length, with and without reset.
@@ -370,6 +484,7 @@ fn play(
     let mut kept = Vec::new();
     for _ in 0..calls {
         let call = make(r, &a, &kept);
+        let call = with_dots(r, call);
         let expected = judge.hold(&a, &call)?;
         if let Some(mismatch) = live.follow(&a, &call, &expected) {
             judge.fail(mismatch);
@@ -385,6 +500,7 @@ fn sequences(count: usize) -> Jobs {
     Jobs::new(count, |judge, r, _| {
         let most = r.pick(&[3, 8, 20, 60, 200]);
         let a = random::any_whole(r, most);
+        let a = random::with_dots(r, a);
         play(judge, r, a, 500, some_call);
     })
 }
@@ -393,6 +509,7 @@ fn large_sequences(count: usize) -> Jobs {
     Jobs::new(count, |judge, r, _| {
         let stack = r.pick(&[LIMIT, LIMIT, LIMIT - 1, 40_000, 2_048]);
         let a = some_arena(r, stack);
+        let a = random::with_dots(r, a);
         play(judge, r, a, 80, some_call);
     })
 }
@@ -507,6 +624,26 @@ fn single(words: &[u32]) -> Option<Call> {
             Call::Insert(kind, p, q, payload)
         }
         _ => return None,
+    })
+}
+
+/// What is due of some chains of random arenas; every second arena is one chain. A few have up to 65,535 slots.
+fn random_due(count: usize) -> Jobs {
+    Jobs::new(count, |judge, r, number| {
+        let (large, most) = (number % 500 == 250, r.pick(&[3, 6, 20, 100]));
+        let a = if number % 2 == 0 {
+            let (stack, free) = if large { (LIMIT, 0) } else { (1 + r.below(most), r.pick(&[0, 2])) };
+            let closed = r.pick(&[0, 16]);
+            let style = Style { free, longest: stack, even: true, scattered: true, closed };
+            random::whole(r, stack, stack, style)
+        } else {
+            random::any_whole(r, if number % 500 == 375 { LIMIT } else { most })
+        };
+        let a = random::with_dots(r, a);
+        for code in [DUE_COUNT, DUE_EVENTS, DUE_COUNT, DUE_EVENTS] {
+            let call = call_of(code, r, &a, &[]);
+            judge.hold(&a, &call);
+        }
     })
 }
 

@@ -17,7 +17,9 @@ impl fmt::Display for Mismatch {
     fn fmt(&self, f: &mut fmt::Formatter<'_>) -> fmt::Result {
         writeln!(f, "the {} parts from the model", self.side)?;
         writeln!(f, "  {}", call_line(&self.call))?;
-        write_arena(f, &self.before)?;
+        if self.call.takes_arena() {
+            write_arena(f, &self.before)?;
+        }
         if let Some(model) = &self.model {
             writeln!(f, "  the model answers {}", reply_line(&self.call, &model.reply))?;
         }

@@ -6,7 +6,7 @@ use std::time::{Duration, Instant};
 use crate::compare::{Counts, Mismatch, Product};
 use crate::header::{GENERATION, LINKS, ROOT, STACK};
 use crate::runner::{Failure, Judgement, judged};
-use crate::words::{COMPRESS_CANONICAL, COMPRESS_WITH, DRAIN, RUN, argument_name};
+use crate::words::{COMPRESS_CANONICAL, COMPRESS_WITH, DRAIN, DUE_EVENTS, RUN, argument_name};
 use crate::{Arena, COMMAND_WORDS, Call};
 
 /// How long a case is made smaller at most; one of a few hundred slots takes a small part of it.
@@ -154,6 +154,7 @@ fn reported_words(code: usize) -> usize {
     match code {
         DRAIN => 5,
         COMPRESS_WITH => 4,
+        DUE_EVENTS => 1,
         _ => 0,
     }
 }

@@ -26,12 +26,17 @@ const CALLS: &[(&str, &[&str], &[&str])] = &[
     ("compress_with", &["reset"], &[]),
     ("compress_canonical", &["reset"], &[]),
     ("insert", &["kind", "slot", "generation", "slot", "generation", "payload"], POINTER),
+    ("line_of_dot", &["dot"], &["line"]),
+    ("line_dots", &["line"], &["first", "last"]),
+    ("due_count", WINDOW, &["count"]),
+    ("due_events", WINDOW, &["count"]),
 ];
 
 const POINTER: &[&str] = &["slot", "generation"];
 const POINTERS: &[&str] = &["slot", "generation", "slot", "generation"];
 const STATE: &[&str] = &["start", "position", "direction", "left"];
 const COMMAND: &[&str; COMMAND_WORDS] = &["code", "slot", "generation", "slot", "generation", "payload"];
+const WINDOW: &[&str] = &["slot", "generation", "from", "to"];
 const LINK: &[&str] = &["prev", "next", "payload"];
 
 /// How many calls there are: their codes are 1 to this.
@@ -46,6 +51,18 @@ pub const COMPRESS_WITH: usize = 17;
 pub const COMPRESS_CANONICAL: usize = 18;
 /// The code of an insertion.
 pub const INSERT: usize = 19;
+/// The codes of the two calls that take no arena.
+pub const LINE_OF_DOT: usize = 20;
+pub const LINE_DOTS: usize = 21;
+/// The code of a count of the links that are due.
+pub const DUE_COUNT: usize = 22;
+/// The code of a report of the links that are due.
+pub const DUE_EVENTS: usize = 23;
+
+/// The codes of the calls that take an arena.
+pub fn calls_on_arenas() -> impl Iterator<Item = usize> + Clone {
+    (1..=CALLS_IN_ALL).filter(|code| !matches!(*code, LINE_OF_DOT | LINE_DOTS))
+}
 
 impl Call {
     /// The call's place in the list of calls, from 1.
@@ -70,6 +87,10 @@ impl Call {
             Self::CompressWith(..) => 17,
             Self::CompressCanonical(..) => COMPRESS_CANONICAL,
             Self::Insert(..) => INSERT,
+            Self::LineOfDot(_) => LINE_OF_DOT,
+            Self::LineDots(_) => LINE_DOTS,
+            Self::DueCount(..) => DUE_COUNT,
+            Self::DueEvents(..) => DUE_EVENTS,
         }
     }
 
@@ -92,7 +113,9 @@ impl Call {
             | Self::BreakPrev(p)
             | Self::BreakNext(p)
             | Self::Remove(p)
-            | Self::Drain(p, _) => vec![*p],
+            | Self::Drain(p, _)
+            | Self::DueCount(p, ..)
+            | Self::DueEvents(p, ..) => vec![*p],
             Self::AreNeighbors(p, q)
             | Self::Connect(p, q)
             | Self::ExchangeNext(p, q)
@@ -106,11 +129,16 @@ impl Call {
         let pointers = self.pointers().into_iter().flat_map(|p| [p.slot.into(), p.generation]);
         match self {
             Self::WalkStep(walk) => vec![walk.start, walk.position, walk.direction, walk.left],
-            Self::SetGeneration(word) | Self::CompressWith(word, _) | Self::CompressCanonical(word, _) => {
-                vec![*word]
-            }
+            Self::SetGeneration(word)
+            | Self::CompressWith(word, _)
+            | Self::CompressCanonical(word, _)
+            | Self::LineOfDot(word)
+            | Self::LineDots(word) => vec![*word],
             Self::Run(commands, _) => commands.clone(),
             Self::Insert(kind, _, _, payload) => once(*kind).chain(pointers).chain(once(*payload)).collect(),
+            Self::DueCount(_, from, to) | Self::DueEvents(_, from, to, _) => {
+                pointers.chain([*from, *to]).collect()
+            }
             _ => pointers.collect(),
         }
     }
@@ -119,7 +147,9 @@ impl Call {
     pub fn lent(&self) -> Vec<u32> {
         match self {
             Self::Drain(_, words) | Self::Run(_, words) | Self::CompressWith(_, words) => words.clone(),
-            Self::CompressCanonical(_, slots) => slots.iter().map(|&slot| slot.into()).collect(),
+            Self::CompressCanonical(_, slots) | Self::DueEvents(.., slots) => {
+                slots.iter().map(|&slot| slot.into()).collect()
+            }
             _ => vec![],
         }
     }
@@ -128,6 +158,7 @@ impl Call {
     pub fn of(code: usize, arguments: &[u32], lent: Vec<u32>) -> Option<Self> {
         let word = |k: usize| arguments.get(k).copied();
         let ptr = |k| Some(Ptr { slot: word(k)?.try_into().ok()?, generation: word(k + 1)? });
+        let slots = |lent: Vec<u32>| lent.into_iter().map(u16::try_from).collect::<Result<_, _>>().ok();
         Some(match code {
             1 => Self::Check,
             2 => Self::GetLink(ptr(0)?),
@@ -151,11 +182,12 @@ impl Call {
             15 => Self::CanonicalizeFreelist,
             RUN => Self::Run(arguments.to_vec(), lent),
             17 => Self::CompressWith(word(0)?, lent),
-            COMPRESS_CANONICAL => {
-                let places: Result<_, _> = lent.into_iter().map(u16::try_from).collect();
-                Self::CompressCanonical(word(0)?, places.ok()?)
-            }
+            COMPRESS_CANONICAL => Self::CompressCanonical(word(0)?, slots(lent)?),
             INSERT => Self::Insert(word(0)?, ptr(1)?, ptr(3)?, word(5)?),
+            LINE_OF_DOT => Self::LineOfDot(word(0)?),
+            LINE_DOTS => Self::LineDots(word(0)?),
+            DUE_COUNT => Self::DueCount(ptr(0)?, word(2)?, word(3)?),
+            DUE_EVENTS => Self::DueEvents(ptr(0)?, word(2)?, word(3)?, slots(lent)?),
             _ => return None,
         })
     }

@@ -1,8 +1,8 @@
 //! The same calls through the safe wrapper, its answers turned back into words.
 
-use chain_arena::{Link, LinkNoGen, Refusal};
+use chain_arena::{Dot, Line, Link, LinkNoGen, Refusal, Window};
 
-use crate::{Arena, Call, Ptr, Reply, Walk};
+use crate::{Arena, Call, Ptr, Reading, Reply, Walk};
 #[cfg(level_two)]
 use crate::{COMMAND_WORDS, kind};
 
@@ -35,28 +35,50 @@ fn reply(answer: Result<(u32, Vec<u32>), Refusal>) -> Reply {
     }
 }
 
-/// Makes one call through the wrapper, or none if its level is not linked or it has no name for a kind of insertion.
+/// Makes one call through the wrapper, or none if its level is not linked or it has no name for a kind of insertion or for a
+/// window.
 pub fn perform(a: &mut Arena, call: &mut Call) -> Option<Reply> {
     match call.level() {
-        1 => Some(level_one(a, call)),
+        1 => level_one(a, call),
         2 => level_two(a, call),
         _ => level_three(a, call),
     }
 }
 
 /// The calls of Level One.
-fn level_one(a: &Arena, call: &Call) -> Reply {
+fn level_one(a: &Arena, call: &mut Call) -> Option<Reply> {
     let arena = a.as_arena();
-    match *call {
-        Call::GetLink(p) => reply(arena.get_link(p).map(|link| (0, link_words(link)))),
-        Call::GetLinkNoGen(p) => reply(arena.get_link_no_gen(p).map(|link| (0, no_gen_words(link)))),
-        Call::AreNeighbors(p, q) => reply(arena.are_neighbors(p, q).map(|yes| (0, vec![yes.into()]))),
+    Some(match call {
+        Call::Check => reply(arena.check().map(|()| (0, vec![]))),
+        Call::GetLink(p) => reply(arena.get_link(*p).map(|link| (0, link_words(link)))),
+        Call::GetLinkNoGen(p) => reply(arena.get_link_no_gen(*p).map(|link| (0, no_gen_words(link)))),
+        Call::AreNeighbors(p, q) => reply(arena.are_neighbors(*p, *q).map(|yes| (0, vec![yes.into()]))),
         Call::WalkStart(p) => reply(
-            arena.walk_start(p).map(|walk| (0, vec![walk.start, walk.position, walk.direction, walk.left])),
+            arena.walk_start(*p).map(|walk| (0, vec![walk.start, walk.position, walk.direction, walk.left])),
         ),
-        Call::WalkStep(walk) => walk_step(&arena, walk),
-        _ => reply(arena.check().map(|()| (0, vec![]))),
-    }
+        Call::WalkStep(walk) => walk_step(&arena, *walk),
+        Call::LineOfDot(dot) => {
+            assert_eq!(Dot::new(*dot), Dot::try_from(*dot).ok());
+            reply(Dot::try_from(*dot).map(|dot| (0, vec![dot.line().get()])))
+        }
+        Call::LineDots(line) => {
+            assert_eq!(Line::new(*line), Line::try_from(*line).ok());
+            reply(Line::try_from(*line).map(|line| (0, vec![line.first().get(), line.last().get()])))
+        }
+        Call::DueCount(p, from, to) => {
+            let window = Window::of(*from, *to)?;
+            reply(arena.due_count(*p, window).map(|count| (0, vec![count as u32])))
+        }
+        Call::DueEvents(p, from, to, report) => {
+            let window = Window::of(*from, *to)?;
+            reply(arena.due_events(*p, window, report).map(|due| {
+                assert!(due.events().all(|event| window.contains(event.dot)));
+                assert!(due.events().map(|event| event.ptr).eq(due.slots.iter().map(|&s| a.ptr(s.into()))));
+                (0, vec![due.slots.len() as u32])
+            }))
+        }
+        _ => return None,
+    })
 }
 
 /// A step; also a refused one hands back its state.

@@ -1,11 +1,12 @@
-//! The small arenas are all there are, and two that compress alike hold the same (REFERENCE, Chains).
+//! The small arenas are all there are, two that compress alike hold the same (REFERENCE, Chains), and the model's lines and
+//! windows are those that are counted dot by dot (REFERENCE, Frame clock).
 
 use std::collections::{HashMap, HashSet};
 
 use oracle::cases::{self, COUNTS};
 use oracle::compare::{Counts, compare, crate_place, crate_text_found};
 use oracle::random::{self, Near, Random};
-use oracle::{Arena, Call, Reading, Reply, demand3, guards, model, side};
+use oracle::{Arena, Call, Reading, Reply, demand3, frame, guards, model, side};
 
 #[test]
 fn there_are_so_many() {
@@ -126,4 +127,72 @@ fn arenas_that_compress_alike_hold_the_same() {
     }
     assert_eq!(counts.cases as usize, 3 * COUNTS[..=5].iter().sum::<usize>());
     assert!(held.len() < counts.cases as usize);
+}
+
+/// Whether each dot is in a window, by counting on from its start, dot by dot, until its end: behind the frame's last dot comes
+/// the frame's end, and if the window does not end there, dot 0.
+fn counted(from: u32, to: u32) -> Vec<bool> {
+    let mut due = vec![false; frame::DOTS as usize];
+    let mut dot = from;
+    while dot != to {
+        if dot == frame::DOTS {
+            dot = 0;
+            continue;
+        }
+        due[dot as usize] = true;
+        dot += 1;
+    }
+    due
+}
+
+#[test]
+fn a_window_has_the_dots_that_are_counted() {
+    let ends: Vec<u32> = cases::frame_edges().into_iter().filter(|&end| end <= frame::DOTS).collect();
+    let mut windows = 0;
+    for (k, &from) in ends.iter().enumerate().filter(|(_, from)| **from < frame::DOTS) {
+        for &to in ends.iter().skip(k % 3).step_by(3).chain([&from, &0, &frame::DOTS]) {
+            let due = counted(from, to);
+            assert!(
+                (0..frame::DOTS).all(|dot| model::is_due(dot, from, to) == due[dot as usize]),
+                "{from} to {to}"
+            );
+            // The window from its end to its start has the other dots.
+            let parted = |dot| model::is_due(dot, from, to) != model::is_due(dot, to, from);
+            assert!(from == to || to == frame::DOTS || (0..frame::DOTS).all(parted), "{from} to {to}");
+            let past = cases::frame_edges().into_iter().filter(|&payload| payload >= frame::DOTS);
+            assert!(past.into_iter().all(|payload| !model::is_due(payload, from, to)), "{from} to {to}");
+            windows += 1;
+        }
+    }
+    assert!(windows > 250, "{windows}");
+}
+
+#[test]
+fn a_line_has_the_dots_that_are_counted() {
+    let mut none = Arena::empty(0);
+    let (mut line, mut place) = (0, 0);
+    for dot in 0..frame::DOTS {
+        assert_eq!(model::perform(&mut none, &mut Call::LineOfDot(dot)), Reply::new(0, &[line]));
+        let [first, last, ..] = model::perform(&mut none, &mut Call::LineDots(line)).words;
+        assert_eq!((dot == first, dot == last), (place == 0, place == 340), "{dot}");
+        (line, place) = if place == 340 { (line + 1, 0) } else { (line, place + 1) };
+    }
+    assert_eq!((line, place), (262, 0));
+}
+
+#[test]
+fn the_chains_of_edges_have_every_edge() {
+    let mut edges = cases::frame_edges();
+    edges.sort_unstable();
+    for (closed, a) in [false, true].map(|closed| (closed, cases::edge_chains(closed))) {
+        assert_eq!(model::check(&a), 0);
+        for s in a.link_slots() {
+            let chain = model::chain_of(&a, s);
+            let mut payloads: Vec<u32> = chain.iter().map(|&s| a.payload[s - 1]).collect();
+            payloads.sort_unstable();
+            assert_eq!(payloads, edges);
+            assert_eq!(chain.iter().all(|&s| a.next[s - 1] != 0), closed);
+        }
+        assert_eq!(a.links(), 2 * edges.len());
+    }
 }

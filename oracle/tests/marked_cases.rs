@@ -1,4 +1,4 @@
-//! K1 to K12 and some insertions, by the model, the crate's text and the exports.
+//! K1 to K12, some insertions and windows, by the model, the crate's text and the exports.
 
 use oracle::compare::{Counts, compare};
 use oracle::{Arena, Call, Ptr, Reply, Walk, guards, kind};
@@ -255,4 +255,84 @@ fn a_run_names_the_links_that_it_inserted() {
     assert_eq!((left.prev, left.next), (vec![3, 1, 2], vec![2, 3, 1]));
     assert_eq!((left.generation, left.payload), (vec![5, 5, 6], vec![70, 71, 74]));
     assert_eq!(left.header, [3, 3, 0, 6]);
+}
+
+#[test]
+fn lines_and_their_dots() {
+    let dots = [0, 340, 341, 681, 682, 89_000, 89_001, 89_341, 89_342, u32::MAX];
+    let (replies, _, _) = play(arena(&[], &[], 0), dots.map(Call::LineOfDot).to_vec());
+    let lines = [0, 0, 1, 1, 2, 260, 261, 261].map(|line| Reply::new(0, &[line]));
+    assert_eq!(replies, [&lines[..], &[Reply::number(19); 2]].concat());
+    let (replies, _, _) =
+        play(arena(&[], &[], 0), [0, 1, 260, 261, 262, u32::MAX].map(Call::LineDots).to_vec());
+    let ends = [[0, 340], [341, 681], [88_660, 89_000], [89_001, 89_341]].map(|ends| Reply::new(0, &ends));
+    assert_eq!(replies, [&ends[..], &[Reply::number(19); 2]].concat());
+}
+
+/// The open chain 4 -> 2 -> 5 -> 1, and 3 closed alone, with these payloads.
+fn clock(payload: [u32; 5]) -> Arena {
+    let mut a = arena(&[(5, 0), (4, 5), (3, 3), (0, 2), (2, 1)], &[], 0);
+    a.payload = payload.to_vec();
+    a
+}
+
+/// What a window reports of the chain of a slot, in a report of nines.
+fn events(a: &Arena, slot: u16, from: u32, to: u32) -> Vec<u16> {
+    let (replies, lent, left) = play(
+        a.clone(),
+        vec![Call::DueCount(p(slot), from, to), Call::DueEvents(p(slot), from, to, vec![9; 6])],
+    );
+    let Call::DueEvents(.., report) = lent else { unreachable!() };
+    assert_eq!(left, *a);
+    assert_eq!(replies[0], replies[1]);
+    let count = replies[1].words[0] as usize;
+    assert_eq!(replies[1], Reply::new(0, &[count as u32]));
+    assert!(report[count..].iter().all(|&word| word == 9));
+    report[..count].to_vec()
+}
+
+#[test]
+fn what_is_due_comes_in_the_order_of_a_walk() {
+    let a = clock([10, 20, 30, 40, 50]);
+    assert_eq!(events(&a, 4, 0, 89_342), [4, 2, 5, 1]);
+    assert_eq!(events(&a, 5, 0, 89_342), [5, 1, 2, 4]);
+    assert_eq!(events(&a, 1, 0, 89_342), [1, 5, 2, 4]);
+    assert_eq!(events(&a, 3, 0, 89_342), [3]);
+    assert_eq!(events(&a, 5, 20, 50), [2, 4]);
+    assert_eq!(events(&a, 5, 40, 20), [5, 1, 4]);
+    assert_eq!(events(&a, 5, 20, 20), []);
+    assert_eq!(events(&a, 5, 21, 20), [5, 1, 4]);
+}
+
+#[test]
+fn payloads_past_the_frame_are_never_due() {
+    let a = clock([0, 89_341, 7, 89_342, u32::MAX]);
+    assert_eq!(events(&a, 4, 0, 89_342), [2, 1]);
+    assert_eq!(events(&a, 4, 89_341, 89_342), [2]);
+    assert_eq!(events(&a, 4, 89_341, 0), [2]);
+    assert_eq!(events(&a, 4, 89_341, 1), [2, 1]);
+    assert_eq!(events(&a, 4, 1, 0), [2]);
+    assert_eq!(events(&a, 4, 0, 89_341), [1]);
+}
+
+#[test]
+fn a_stale_pointer_comes_before_the_window_and_that_before_the_report() {
+    let a = clock([10, 20, 30, 40, 50]);
+    let call = |slot, from, to, words| Call::DueEvents(p(slot), from, to, vec![9; words]);
+    let cases = [
+        (call(6, 89_342, 0, 0), 12),
+        (call(4, 89_342, 0, 0), 19),
+        (call(4, 0, 89_343, 3), 19),
+        (call(4, 0, 89_342, 3), 14),
+        (call(4, 5, 5, 3), 14),
+        (call(4, 5, 5, 4), 0),
+        (call(3, 5, 5, 0), 14),
+        (call(3, 5, 5, 1), 0),
+        (call(4, 89_341, 89_342, 4), 0),
+    ];
+    for (call, number) in cases {
+        let (replies, lent, left) = play(a.clone(), vec![call.clone()]);
+        assert_eq!(replies, [Reply::number(number)], "{call:?}");
+        assert_eq!((lent, left), (call, a.clone()));
+    }
 }

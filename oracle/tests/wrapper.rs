@@ -1,12 +1,12 @@
-//! The safe wrapper answers what the exported calls answer: any call on whole and damaged arenas, every insertion on every
-//! small arena; and the view of a checked
-//! arena, which reads the columns itself, reads what the proved calls read.
+//! The safe wrapper answers what the exported calls answer: any call on whole and damaged arenas, every insertion and every
+//! window on every small arena, every line; and the view of a checked arena, which reads the columns itself, reads what the
+//! proved calls read.
 
-use chain_arena::{Checked, Link, Ptr, Refusal};
+use chain_arena::{Checked, Dot, Link, Ptr, Refusal, Window};
 use oracle::calls::{each_call, some_call};
 use oracle::compare::{Counts, model_outcome, wrapper_outcome};
 use oracle::random::{self, Random};
-use oracle::{Arena, Call, LIMIT, Reading, cases, kind, model};
+use oracle::{Arena, Call, LIMIT, Reading, cases, frame, kind, model};
 
 #[test]
 fn any_call() {
@@ -14,12 +14,28 @@ fn any_call() {
     for seed in 0..400_000 {
         let mut r = Random::new(8_000_000 + seed);
         let a = if r.once_in(4) { random::damaged(&mut r, 12) } else { random::any_whole(&mut r, 12) };
+        let a = random::with_dots(&mut r, a);
         hold_call(&a, &some_call(&mut r, &a, &[]), &mut counts);
     }
     counts.say("calls through the wrapper");
-    assert!(counts.cases > 390_000, "every call is there");
-    for number in (0..=18).chain([100]) {
+    assert!(counts.cases > 385_000, "every call is there");
+    for number in (0..=19).chain([100]) {
         assert!(counts.numbers[number] > 100, "{number} was hardly tried");
+    }
+}
+
+#[test]
+fn any_line_and_any_window() {
+    let (mut counts, none) = (Counts::default(), Arena::empty(0));
+    for call in cases::lines().map(Call::LineDots).chain(cases::dots().map(Call::LineOfDot)) {
+        hold_call(&none, &call, &mut counts);
+    }
+    for a in (0..=3).flat_map(cases::clocked_arenas) {
+        cases::each_due(&a, |call| hold_call(&a, &call, &mut counts));
+    }
+    counts.say("lines and windows through the wrapper");
+    for number in [0, 12, 14, 19] {
+        assert!(counts.numbers[number] > 1_000, "{number} was hardly tried");
     }
 }
 
@@ -50,9 +66,17 @@ fn any_call_on_a_broken_arena() {
     assert_eq!(counts.numbers[11], counts.cases);
 }
 
-/// Holds a call through the wrapper to the model. The wrapper has no name for an unknown kind of insertion.
+/// Holds a call through the wrapper to the model. The wrapper has no name for an unknown kind of insertion, nor for a window
+/// that the frame has not.
 fn hold_call(a: &Arena, call: &Call, counts: &mut Counts) {
-    if matches!(call, Call::Insert(kind, ..) if !kind::ALL.contains(kind)) {
+    let has_name = match *call {
+        Call::Insert(kind, ..) => kind::ALL.contains(&kind),
+        Call::DueCount(_, from, to) | Call::DueEvents(_, from, to, _) => {
+            from < frame::DOTS && to <= frame::DOTS
+        }
+        _ => true,
+    };
+    if !has_name {
         return assert!(wrapper_outcome(a, call).is_none());
     }
     let expected = model_outcome(a, call);
@@ -112,6 +136,7 @@ fn reading_parts(view: Checked<'_>, arena: chain_arena::Arena<'_>, p: Ptr) -> Op
         ("contains", view.contains(p) == link.is_ok()),
         ("ptr", view.ptr(p.slot) == Some(p) || link.is_err()),
         ("chain", view.chain(p).map(Iterator::collect) == walked(arena, p)),
+        ("due", WINDOWS.iter().all(|&window| due_is_alike(view, arena, p, window))),
         ("chain_from_first", view.chain_from_first(p).map(Iterator::collect) == along_next()),
         (
             "is_closed",
@@ -119,6 +144,25 @@ fn reading_parts(view: Checked<'_>, arena: chain_arena::Arena<'_>, p: Ptr) -> Op
         ),
     ];
     found.iter().find(|(_, alike)| !alike).map(|(name, _)| format!("{name}({p:?})"))
+}
+
+/// Windows that tell payloads of small arenas apart, in order and over the end of the frame.
+const WINDOWS: [Option<Window>; 5] = [
+    Window::of(0, 89_342),
+    Window::of(101, 103),
+    Window::of(103, 101),
+    Window::of(102, 102),
+    Window::of(102, 103),
+];
+
+/// Whether a view has the same links due in a window as the proved call.
+fn due_is_alike(view: Checked<'_>, arena: chain_arena::Arena<'_>, p: Ptr, window: Option<Window>) -> bool {
+    let (window, mut report) = (window.expect("a window of the frame"), vec![0; arena.payload.len()]);
+    let due = view.due(p, window).map(|due| due.collect::<Vec<(Ptr, Link)>>());
+    let links = |ptr: Ptr| arena.get_link(ptr).map(|link| (ptr, link));
+    due == arena
+        .due_events(p, window, &mut report)
+        .and_then(|due| due.events().map(|event| links(event.ptr)).collect())
 }
 
 /// Whether a chain goes round.
@@ -169,6 +213,33 @@ fn the_view_of_a_checked_arena_is_what_the_calls_read() {
     for seed in 0..300 {
         hold_view(&random::any_whole(&mut Random::new(9_000_000 + seed), 30));
     }
+}
+
+#[test]
+fn what_is_due_in_a_view_is_what_the_call_reports() {
+    let mut held = 0;
+    for a in (0..=3).flat_map(cases::clocked_arenas) {
+        let view = a.as_arena().checked().expect("an arena that passes the check");
+        cases::each_due(&a, |call| {
+            if let Call::DueCount(p, from, to) = call
+                && Window::of(from, to).is_some()
+            {
+                assert!(due_is_alike(view, a.as_arena(), p, Window::of(from, to)), "{call:?} on {a:?}");
+                held += 1;
+            }
+        });
+    }
+    for a in [false, true].map(cases::edge_chains) {
+        let (view, edges) = (a.as_arena().checked().expect("an arena that passes"), cases::frame_edges());
+        for (from, to) in edges.iter().flat_map(|&from| edges.iter().map(move |&to| (from, to))) {
+            let Some(window) = Window::of(from, to) else { continue };
+            assert!(due_is_alike(view, a.as_arena(), a.ptr(1), Some(window)), "{from} to {to}");
+            let contains = |payload| Dot::new(payload).is_some_and(|dot| window.contains(dot));
+            assert!(edges.iter().all(|&payload| contains(payload) == model::is_due(payload, from, to)));
+            held += 1;
+        }
+    }
+    assert!(held > 20_000, "{held}");
 }
 
 #[test]

@@ -9,9 +9,10 @@ use oracle::random::{self, Near, Random};
 use oracle::runner::{Failure, Run};
 use oracle::sections::{Form, SECTIONS};
 use oracle::side::{NEXT, PREV};
-use oracle::words::CALLS_IN_ALL;
+use oracle::words::{CALLS_IN_ALL, calls_on_arenas};
 use oracle::{
-    Arena, COMMAND_WORDS, Call, Ptr, Reading, Reply, Walk, calls, cases, demand3, kind, model, shrink,
+    Arena, COMMAND_WORDS, Call, Ptr, Reading, Reply, Walk, calls, cases, demand3, frame, kind, model,
+    payloads, shrink,
 };
 
 /// Every outcome that differs from the given one in one word.
@@ -37,16 +38,11 @@ fn one_word_off(right: &Outcome) -> Vec<Outcome> {
         push(&|o| o.arena.generation[k] ^= 1);
         push(&|o| o.arena.payload[k] ^= 1);
     }
-    let lent = match &right.call {
-        Call::Drain(_, words) | Call::CompressWith(_, words) | Call::Run(_, words) => words.len(),
-        Call::CompressCanonical(_, places) => places.len(),
-        _ => 0,
-    };
-    for k in 0..lent {
+    for k in 0..right.call.lent().len() {
         push(&|o| match &mut o.call {
             Call::Drain(_, words) | Call::CompressWith(_, words) | Call::Run(_, words) => words[k] ^= 1,
-            Call::CompressCanonical(_, places) => places[k] ^= 1,
-            _ => {}
+            Call::CompressCanonical(_, words) | Call::DueEvents(.., words) => words[k] ^= 1,
+            _ => unreachable!("a call that lends nothing"),
         });
     }
     wrong
@@ -514,7 +510,245 @@ const WRONG: &[(&str, &str, Wrong)] = &[
             o.arena.next[place] = a.next[place];
         }
     })),
+    ("line_of_dot", "340 dots a line", |_, _, o| line_as(o, |dot| dot / 340)),
+    ("line_of_dot", "one line that begins a dot too late", |_, _, o| line_as(o, |dot| if dot == 131 * 341 { 130 } else { dot / 341 })),
+    ("line_of_dot", "the line behind at a line's last dot", |_, _, o| line_as(o, |dot| (dot + 1) / 341)),
+    ("line_of_dot", "the line before at a line's first dot", |_, _, o| line_as(o, |dot| dot.saturating_sub(1) / 341)),
+    ("line_of_dot", "lines counted from 1", |_, _, o| line_as(o, |dot| dot / 341 + 1)),
+    ("line_of_dot", "dots cut to 16 bits", |_, _, o| line_as(o, |dot| (dot & 0xffff) / 341)),
+    ("line_of_dot", "lines of 8 bits", |_, _, o| line_as(o, |dot| (dot / 341) & 0xff)),
+    ("line_of_dot", "the frame's last dot refused", |_, call, o| if let Call::LineOfDot(89_341) = call { o.reply = Reply::number(19) }),
+    ("line_of_dot", "dot 89,342 accepted", |_, call, o| if let Call::LineOfDot(89_342) = call { o.reply = Reply::new(0, &[262]) }),
+    ("line_of_dot", "12 for 19", |_, call, o| if let (Call::LineOfDot(_), 19) = (call, o.reply.number) { o.reply.number = 12 }),
+    ("line_of_dot", "a line answered with 19", |_, call, o| if let (Call::LineOfDot(dot), 19) = (call, o.reply.number) { o.reply.words[0] = dot / 341 }),
+    ("line_dots", "340 dots a line", |_, _, o| ends_as(o, |line| [340 * line, 340 * line + 339])),
+    ("line_dots", "one line that begins a dot too late", |_, _, o| ends_as(o, |line| [341 * line + u32::from(line == 131), 341 * line + 340])),
+    ("line_dots", "one line that ends a dot too early", |_, _, o| ends_as(o, |line| [341 * line, 341 * line + 340 - u32::from(line == 130)])),
+    ("line_dots", "the next line's first dot for the last", |_, _, o| ends_as(o, |line| [341 * line, 341 * line + 341])),
+    ("line_dots", "first and last exchanged", |_, _, o| ends_as(o, |line| [341 * line + 340, 341 * line])),
+    ("line_dots", "lines counted from 1", |_, _, o| ends_as(o, |line| [341 * line.saturating_sub(1), 341 * line.saturating_sub(1) + 340])),
+    ("line_dots", "lines cut to 8 bits", |_, _, o| ends_as(o, |line| [341 * (line & 0xff), 341 * (line & 0xff) + 340])),
+    ("line_dots", "dots cut to 16 bits", |_, _, o| ends_as(o, |line| [(341 * line) & 0xffff, (341 * line + 340) & 0xffff])),
+    ("line_dots", "the last line refused", |_, call, o| if let Call::LineDots(261) = call { o.reply = Reply::number(19) }),
+    ("line_dots", "line 262 accepted", |_, call, o| if let Call::LineDots(262) = call { o.reply = Reply::new(0, &[89_342, 89_682]) }),
+    ("line_dots", "dots answered with 19", |_, call, o| if let (Call::LineDots(_), 19) = (call, o.reply.number) { o.reply.words[1] = 340 }),
+    ("due_count", "the whole chain counted", |a, call, o| counted(a, call, o, |chain, _| chain.len())),
+    ("due_count", "all chains counted", |a, call, o| counted(a, call, o, |_, due| a.link_slots().filter(|&s| due(s)).count())),
+    ("due_count", "the links before the start left out", |a, call, o| counted(a, call, o, |chain, due| {
+        chain[..along_next(a, chain)].iter().filter(|&&s| due(s)).count()
+    })),
+    ("due_count", "the start left out", |a, call, o| counted(a, call, o, |chain, due| chain[1..].iter().filter(|&&s| due(s)).count())),
+    ("due_count", "the start of a closed chain counted twice", |a, call, o| counted(a, call, o, |chain, due| {
+        let twice = a.prev[chain[0] - 1] != 0 && along_next(a, chain) == chain.len();
+        chain.iter().filter(|&&s| due(s)).count() + usize::from(twice && due(chain[0]))
+    })),
+    ("due_count", "two at most counted", |a, call, o| counted(a, call, o, |chain, due| chain.iter().filter(|&&s| due(s)).count().min(2))),
+    ("due_count", "19 before 12", |a, call, o| if let (Call::DueCount(_, from, to), 12) = (call, o.reply.number) {
+        if !in_the_frame(*from, *to) {
+            refuse(a, call, o, 19);
+        }
+    }),
+    ("due_count", "19 before the check", |_, call, o| if let (Call::DueCount(_, from, to), 1..=11) = (call, o.reply.number) {
+        if !in_the_frame(*from, *to) {
+            o.reply = Reply::number(19);
+        }
+    }),
+    ("due_count", "12 before the check", |_, call, o| if let (Call::DueCount(p, ..), 1..=11) = (call, o.reply.number) {
+        if p.slot == 0 {
+            o.reply = Reply::number(12);
+        }
+    }),
+    ("due_count", "a stale pointer's slot walked from", |a, call, o| if let (Call::DueCount(p, from, to), 12) = (call, o.reply.number) {
+        if a.is_link(p.slot.into()) {
+            instead(a, o, Call::DueCount(a.ptr(p.slot.into()), *from, *to));
+        }
+    }),
+    ("due_count", "a window up to the frame's end refused", |a, call, o| if let Call::DueCount(_, _, 89_342) = call {
+        if o.reply.number == 0 {
+            refuse(a, call, o, 19);
+        }
+    }),
+    ("due_count", "a window up to 89,343 accepted", |a, call, o| if let (Call::DueCount(p, from, 89_343), 19) = (call, o.reply.number) {
+        instead(a, o, Call::DueCount(*p, *from, 89_342));
+    }),
+    ("due_count", "a window from 89,342 on accepted", |a, call, o| if let (Call::DueCount(p, 89_342, to), 19) = (call, o.reply.number) {
+        instead(a, o, Call::DueCount(*p, 0, *to));
+    }),
+    ("due_count", "a window from 89,341 on refused", |a, call, o| if let (Call::DueCount(_, 89_341, _), 0) = (call, o.reply.number) {
+        refuse(a, call, o, 19);
+    }),
+    ("due_count", "a count with 19", |_, call, o| if let (Call::DueCount(..), 19) = (call, o.reply.number) { o.reply.words[0] = 1 }),
+    ("due_count", "a slot named with 19", |_, call, o| if let (Call::DueCount(p, ..), 19) = (call, o.reply.number) {
+        o.reply.broken = p.slot.into();
+    }),
+    ("due_events", "slot order", |a, call, o| reported(a, call, o, |_, events| events.sort_unstable())),
+    ("due_events", "the order of their dots", |a, call, o| reported(a, call, o, |_, events| events.sort_by_key(|&s| a.payload[s - 1]))),
+    ("due_events", "the walk the other way round", |a, call, o| reported(a, call, o, |_, events| events.reverse())),
+    ("due_events", "the links before the start first", |a, call, o| reported(a, call, o, |chain, events| {
+        let before = &chain[along_next(a, chain)..];
+        let (mut first, rest): (Vec<usize>, Vec<usize>) = events.iter().partition(|s| before.contains(s));
+        first.extend(rest);
+        *events = first;
+    })),
+    ("due_events", "the chain from its first link on", |a, call, o| reported(a, call, o, |chain, events| {
+        let before = &chain[along_next(a, chain)..];
+        let (mut first, rest): (Vec<usize>, Vec<usize>) = events.iter().partition(|s| before.contains(s));
+        first.reverse();
+        first.extend(rest);
+        *events = first;
+    })),
+    ("due_events", "the links before the start from the first on", |a, call, o| reported(a, call, o, |chain, events| {
+        let before = &chain[along_next(a, chain)..];
+        let (rest, mut last): (Vec<usize>, Vec<usize>) = events.iter().partition(|s| !before.contains(s));
+        last.reverse();
+        *events = [rest, last].concat();
+    })),
+    ("due_events", "the whole chain reported", |a, call, o| reported(a, call, o, |chain, events| *events = chain.to_vec())),
+    ("due_events", "the last event forgotten", |a, call, o| reported(a, call, o, |_, events| _ = events.pop())),
+    ("due_events", "slots counted from 0", |_, call, o| rewritten(call, o, |report, count| {
+        report[..count].iter_mut().for_each(|slot| *slot -= 1);
+    })),
+    ("due_events", "payloads for slots", |a, call, o| rewritten(call, o, |report, count| {
+        report[..count].iter_mut().for_each(|slot| *slot = a.payload[*slot as usize - 1] as u16);
+    })),
+    ("due_events", "the first event not written", |_, call, o| if let Call::DueEvents(.., old) = call {
+        rewritten(call, o, |report, count| if count > 0 { report[0] = old[0] });
+    }),
+    ("due_events", "the word behind the events written", |_, call, o| rewritten(call, o, |report, count| {
+        if let Some(word) = report.get_mut(count) {
+            *word = 0;
+        }
+    })),
+    ("due_events", "the rest of the report zeroed", |_, call, o| rewritten(call, o, |report, count| report[count..].fill(0))),
+    ("due_events", "every link of the chain written, then the events", |a, call, o| if let Call::DueEvents(p, ..) = call {
+        rewritten(call, o, |report, count| {
+            let chain = model::chain_of(a, p.slot.into());
+            for (word, &s) in report.iter_mut().zip(&chain).skip(count) {
+                *word = s as u16;
+            }
+        });
+    }),
+    ("due_events", "the chain's length for the count", |a, call, o| if let (Call::DueEvents(p, ..), 0) = (call, o.reply.number) {
+        o.reply.words[0] = model::chain_of(a, p.slot.into()).len() as u32;
+    }),
+    ("due_events", "an exact report refused", |a, call, o| if let (Call::DueEvents(p, .., report), 0) = (call, o.reply.number) {
+        if report.len() == model::chain_of(a, p.slot.into()).len() {
+            refuse(a, call, o, 14);
+        }
+    }),
+    ("due_events", "room for the events is enough", |a, call, o| if let (Call::DueEvents(p, from, to, report), 14) = (call, o.reply.number) {
+        let longer = model_outcome(a, &Call::DueEvents(*p, *from, *to, vec![0; a.links()]));
+        let count = longer.reply.words[0] as usize;
+        if let (true, Call::DueEvents(.., events), Call::DueEvents(.., written)) = (count <= report.len(), &longer.call, &mut o.call) {
+            o.reply = longer.reply;
+            written[..count].copy_from_slice(&events[..count]);
+        }
+    }),
+    ("due_events", "room for all links of the arena asked for", |a, call, o| if let (Call::DueEvents(.., report), 0) = (call, o.reply.number) {
+        if report.len() < a.links() {
+            refuse(a, call, o, 14);
+        }
+    }),
+    ("due_events", "14 before 19", |a, call, o| if let (Call::DueEvents(p, .., report), 19) = (call, o.reply.number) {
+        if report.len() < model::chain_of(a, p.slot.into()).len() {
+            o.reply.number = 14;
+        }
+    }),
+    ("due_events", "14 before 12", |_, call, o| if let (Call::DueEvents(.., report), 12) = (call, o.reply.number) {
+        if report.is_empty() {
+            o.reply.number = 14;
+        }
+    }),
+    ("due_events", "14 before the check", |_, call, o| if let (Call::DueEvents(.., report), 1..=11) = (call, o.reply.number) {
+        if report.is_empty() {
+            o.reply = Reply::number(14);
+        }
+    }),
+    ("due_events", "19 before 12", |a, call, o| if let (Call::DueEvents(_, from, to, _), 12) = (call, o.reply.number) {
+        if !in_the_frame(*from, *to) {
+            refuse(a, call, o, 19);
+        }
+    }),
+    ("due_events", "19 before the check", |_, call, o| if let (Call::DueEvents(_, from, to, _), 1..=11) = (call, o.reply.number) {
+        if !in_the_frame(*from, *to) {
+            o.reply = Reply::number(19);
+        }
+    }),
+    ("due_events", "a window up to the frame's end refused", |a, call, o| if let (Call::DueEvents(_, _, 89_342, _), 0) = (call, o.reply.number) {
+        refuse(a, call, o, 19);
+    }),
+    ("due_events", "a window from 89,342 on accepted", |_, call, o| if let (Call::DueEvents(_, 89_342, 0..=89_342, _), 19) = (call, o.reply.number) {
+        o.reply.number = 0;
+    }),
+    ("due_events", "events written although the report is too short", |a, call, o| if let (Call::DueEvents(p, from, to, _), 14) = (call, o.reply.number) {
+        let longer = model_outcome(a, &Call::DueEvents(*p, *from, *to, vec![0; a.links()]));
+        if let (Call::DueEvents(.., events), Call::DueEvents(.., written)) = (&longer.call, &mut o.call) {
+            let count = written.len().min(longer.reply.words[0] as usize);
+            written[..count].copy_from_slice(&events[..count]);
+        }
+    }),
+    ("due_events", "a count with 14", |_, call, o| if let (Call::DueEvents(.., report), 14) = (call, o.reply.number) {
+        o.reply.words[0] = report.len() as u32 + 1;
+    }),
 ];
+
+/// Answers another line for a dot of the frame.
+fn line_as(o: &mut Outcome, line: impl Fn(u32) -> u32) {
+    if let (Call::LineOfDot(dot), 0) = (&o.call, o.reply.number) {
+        o.reply.words[0] = line(*dot);
+    }
+}
+
+/// Answers other dots for a line of the frame.
+fn ends_as(o: &mut Outcome, ends: impl Fn(u32) -> [u32; 2]) {
+    if let (Call::LineDots(line), 0) = (&o.call, o.reply.number) {
+        o.reply.words[..2].copy_from_slice(&ends(*line));
+    }
+}
+
+/// Whether two ends make a window of the frame.
+fn in_the_frame(from: u32, to: u32) -> bool {
+    from < frame::DOTS && to <= frame::DOTS
+}
+
+/// How many links of a walked chain come before the walk turns.
+fn along_next(a: &Arena, chain: &[usize]) -> usize {
+    chain.iter().position(|&s| a.next[s - 1] == 0).map_or(chain.len(), |end| end + 1)
+}
+
+/// Counts something else: of the chain in the walk's order, and of what tells whether a slot's payload is due.
+fn counted(
+    a: &Arena,
+    call: &Call,
+    o: &mut Outcome,
+    count: impl Fn(&[usize], &dyn Fn(usize) -> bool) -> usize,
+) {
+    if let (Call::DueCount(p, from, to), 0) = (call, o.reply.number) {
+        let due = |s: usize| model::is_due(a.payload[s - 1], *from, *to);
+        o.reply.words[0] = count(&model::chain_of(a, p.slot.into()), &due) as u32;
+    }
+}
+
+/// Reports other events, or in another order: the chain in the walk's order, the events.
+fn reported(a: &Arena, call: &Call, o: &mut Outcome, change: impl Fn(&[usize], &mut Vec<usize>)) {
+    if let (Call::DueEvents(p, .., old), Call::DueEvents(.., report), 0) = (call, &mut o.call, o.reply.number)
+    {
+        let mut events = report[..o.reply.words[0] as usize].iter().map(|&slot| slot.into()).collect();
+        change(&model::chain_of(a, p.slot.into()), &mut events);
+        report.copy_from_slice(old);
+        for (word, &s) in report.iter_mut().zip(&events) {
+            *word = s as u16;
+        }
+        o.reply.words[0] = events.len() as u32;
+    }
+}
+
+/// Changes the report of events: the report, the number of events.
+fn rewritten(call: &Call, o: &mut Outcome, change: impl Fn(&mut [u16], usize)) {
+    if let (Call::DueEvents(..), Call::DueEvents(.., report), 0) = (call, &mut o.call, o.reply.number) {
+        change(report, o.reply.words[0] as usize);
+    }
+}
 
 /// Runs commands of five words, without a payload.
 fn five_words(a: &Arena, words: &[u32], answers: &[u32], o: &mut Outcome) {
@@ -735,6 +969,8 @@ fn sections_of(call: &str) -> &'static [&'static str] {
         "run" => &["insertion_pairs", "edits"],
         "insert" => &["damage", "insertions"],
         "compress_with" | "compress_canonical" => &["compressions"],
+        "line_of_dot" | "line_dots" => &["lines"],
+        "due_count" | "due_events" => &["due", "windows", "small_broken"],
         _ => &["edits"],
     }
 }
@@ -800,7 +1036,11 @@ fn a_program_wrong_about_few_words_is_found_out() {
 
 /// The sections of random cases that find a program out that is wrong about a call.
 fn random_sections_of(call: &str) -> &'static [&'static str] {
-    if call == "check" { &["damage", "random_broken"] } else { &["sequences", "damage"] }
+    match call {
+        "check" => &["damage", "random_broken"],
+        "due_count" | "due_events" => &["random_due", "damage"],
+        _ => &["sequences", "damage"],
+    }
 }
 
 #[test]
@@ -832,7 +1072,7 @@ const HANDED_ON: &[(&str, Wrong)] = &[
 
 #[test]
 fn one_call_that_hands_on_another_place_is_found_out() {
-    for code in 1..=CALLS_IN_ALL {
+    for code in calls_on_arenas() {
         for (what, program) in HANDED_ON {
             // The call alone is wrong, or all others are.
             for alone in [true, false] {
@@ -853,6 +1093,131 @@ fn one_call_that_hands_on_another_place_is_found_out() {
     }
 }
 
+/// A test of a payload: payload, start and end of the window.
+type Test = fn(u32, u32, u32) -> bool;
+
+/// Wrong tests of a payload.
+#[rustfmt::skip]
+const WRONG_WINDOWS: &[(&str, Test)] = &[
+    ("the end in the window", |v, from, to| model::is_due(v, from, to) || v == to && v < frame::DOTS),
+    ("the end in a window in order", |v, from, to| model::is_due(v, from, to) || from < to && v == to),
+    ("the end in a window over the frame's end", |v, from, to| model::is_due(v, from, to) || to < from && v == to),
+    ("the start not in the window", |v, from, to| model::is_due(v, from, to) && v != from),
+    ("the whole frame between equal ends", |v, from, to| if from == to { v < frame::DOTS } else { model::is_due(v, from, to) }),
+    ("one dot between equal ends", |v, from, to| if from == to { v == from } else { model::is_due(v, from, to) }),
+    ("payloads past the frame in a window over its end", |v, from, to| {
+        if to < from { v >= from || v < to } else { model::is_due(v, from, to) }
+    }),
+    ("89,342 in a window over the frame's end", |v, from, to| model::is_due(v, from, to) || to < from && v == frame::DOTS),
+    ("89,342 in a window up to the frame's end", |v, from, to| {
+        model::is_due(v, from, to) || to == frame::DOTS && v == frame::DOTS
+    }),
+    ("the largest payload always", |v, from, to| model::is_due(v, from, to) || v == u32::MAX),
+    ("dot 0 never", |v, from, to| model::is_due(v, from, to) && v != 0),
+    ("the last dot never", |v, from, to| model::is_due(v, from, to) && v != frame::DOTS - 1),
+    ("nothing in a window over the frame's end", |v, from, to| from <= v && v < to),
+    ("only what comes before the frame's end", |v, from, to| {
+        if to < from { v >= from && v < frame::DOTS } else { model::is_due(v, from, to) }
+    }),
+    ("only what comes behind the frame's end", |v, from, to| if to < from { v < to } else { model::is_due(v, from, to) }),
+    ("ends put in order", |v, from, to| model::is_due(v, from.min(to), from.max(to))),
+    ("the dots outside the window", |v, from, to| v < frame::DOTS && !model::is_due(v, from, to)),
+    ("payloads round the frame", |v, from, to| model::is_due(v % frame::DOTS, from, to)),
+    ("payloads cut to 16 bits", |v, from, to| model::is_due(v & 0xffff, from, to)),
+    ("payloads cut to 17 bits", |v, from, to| model::is_due(v & 0x1_ffff, from, to)),
+    ("ends cut to 16 bits", |v, from, to| model::is_due(v, from & 0xffff, to & 0xffff)),
+    ("lines for dots", |v, from, to| {
+        let line = |dot: u32| dot / frame::LINE_DOTS;
+        v < frame::DOTS && model::is_due(line(v), line(from), line(to))
+    }),
+    ("a frame of 340 dots a line", |v, from, to| model::is_due(v, from, to) && (from <= to || v < 340 * frame::LINES)),
+];
+
+#[test]
+fn a_wrong_window_is_found_out_in_either_call() {
+    for (what, is_due) in WRONG_WINDOWS {
+        for in_count in [true, false] {
+            let product = |a: &Arena, call: &Call| {
+                let mut outcome = model_outcome(a, call);
+                if in_count {
+                    if let Call::DueCount(_, from, to) = *call {
+                        let due = |s: usize| is_due(a.payload[s - 1], from, to);
+                        counted(a, call, &mut outcome, |chain, _| chain.iter().filter(|&&s| due(s)).count());
+                    }
+                } else if let Call::DueEvents(_, from, to, _) = *call {
+                    let due = |s: usize| is_due(a.payload[s - 1], from, to);
+                    let events = |chain: &[usize]| chain.iter().copied().filter(|&s| due(s)).collect();
+                    reported(a, call, &mut outcome, |chain, found| *found = events(chain));
+                }
+                Some(Ok(outcome))
+            };
+            for section in ["windows", "random_due"] {
+                let found = failure(&[section], 4_000, 1, &product);
+                let found = found.unwrap_or_else(|| panic!("{what}: passes for right in {section}"));
+                let shown = shrink::smallest(found, &product);
+                assert_eq!(matches!(shown.call, Call::DueCount(..)), in_count, "{what}");
+                assert!(shown.before.capacity() <= 2, "{what}: {shown}");
+            }
+        }
+    }
+}
+
+/// A change of one word that a call leaves.
+type Change = fn(&mut Outcome);
+
+#[test]
+fn a_compression_that_looks_at_payloads_is_found_out() {
+    let before = {
+        let mut a = Arena::empty(4);
+        a.generation[1..].fill(5);
+        a.payload.copy_from_slice(&[9, 100, 89_341, 89_342]);
+        (a.prev, a.next) = (vec![0, 0, 4, 0], vec![1, 0, 0, 3]);
+        a.header = vec![4, 3, 1, 5];
+        a
+    };
+    let other = payloads::with_other_payloads(&before);
+    assert!(before.payload.iter().zip(&other.payload).all(|(one, other)| one != other));
+    assert_eq!(Arena { payload: before.payload.clone(), ..other.clone() }, before);
+    let calls = [
+        Call::CompressWith(0, vec![0; 13]),
+        Call::CompressCanonical(0, vec![0; 4]),
+        Call::CompressWith(0, vec![]),
+    ];
+    for call in calls {
+        let [first, second] = [&before, &other].map(|a| model_outcome(a, &call));
+        let held = |second: &Outcome| payloads::broken((&before, &first), (&other, second));
+        assert_eq!(held(&second), None);
+        let changes: [(&str, Change); 5] = [
+            ("both answer the same", |o| o.reply.number ^= 100),
+            ("both leave the same words but for payloads", |o| o.arena.next[0] ^= 1),
+            ("both leave the same words but for payloads", |o| o.arena.header[GENERATION] += 1),
+            ("each payload goes with its link", |o| o.arena.payload.swap(0, 1)),
+            ("each payload goes with its link", |o| o.arena.payload[3] ^= 1),
+        ];
+        for (point, change) in changes {
+            let mut wrong = second.clone();
+            change(&mut wrong);
+            assert_eq!(held(&wrong), Some(point), "{call:?}");
+        }
+        let mut wrong = second.clone();
+        match &mut wrong.call {
+            Call::CompressWith(_, report) if !report.is_empty() => report[2] ^= 1,
+            Call::CompressCanonical(_, from) => from.swap(0, 1),
+            _ => continue,
+        }
+        assert_eq!(held(&wrong), Some("both report the same"), "{call:?}");
+    }
+    // Links with a dot of the frame first: such a program is wrong about one of the two arenas at least.
+    let by_dots: Wrong = |a, _, o| {
+        laid_out(a, o, |a| {
+            let mut slots: Vec<usize> = a.link_slots().collect();
+            slots.sort_by_key(|&s| a.payload[s - 1] >= frame::DOTS);
+            slots
+        });
+    };
+    assert!(found_out(&["payloads"], 2_500, by_dots).is_some());
+}
+
 /// Wrong programs that need a slot over 255 or over 32,767.
 const WRONG_ABOUT_FAR_SLOTS: &[(&str, Wrong)] = &[
     ("a slot of 8 bits", |_, _, o| o.reply.broken &= 0xff),
@@ -870,10 +1235,35 @@ const WRONG_ABOUT_FAR_SLOTS: &[(&str, Wrong)] = &[
     }),
 ];
 
+/// Wrong programs that need a chain of more than 255 or 32,767 links, or the largest slot.
+#[rustfmt::skip]
+const WRONG_ABOUT_FAR_EVENTS: &[(&str, Wrong)] = &[
+    ("an event's slot of 8 bits", |_, call, o| rewritten(call, o, |report, count| report[..count].iter_mut().for_each(|slot| *slot &= 0xff))),
+    ("an event's slot of 15 bits", |_, call, o| rewritten(call, o, |report, count| report[..count].iter_mut().for_each(|slot| *slot &= 0x7fff))),
+    ("a count of 8 bits", |_, call, o| if matches!(call, Call::DueCount(..)) { o.reply.words[0] &= 0xff }),
+    ("a count of 15 bits", |_, call, o| if matches!(call, Call::DueCount(..)) { o.reply.words[0] &= 0x7fff }),
+    ("the largest slot not counted", |a, call, o| counted(a, call, o, |chain, due| chain.iter().filter(|&&s| s < 65_535 && due(s)).count())),
+    ("the largest slot not reported", |a, call, o| reported(a, call, o, |_, events| events.retain(|&s| s < 65_535))),
+    ("65,534 links counted at most", |a, call, o| counted(a, call, o, |chain, due| chain.iter().take(65_534).filter(|&&s| due(s)).count())),
+    ("65,534 links reported at most", |a, call, o| reported(a, call, o, |chain, events| if chain.len() == 65_535 {
+        events.retain(|s| *s != chain[65_534]);
+    })),
+    ("room for 65,534 links is enough", |a, call, o| match (call, o.reply.number) {
+        (Call::DueEvents(p, from, to, report), 14) if report.len() == 65_534 => {
+            o.reply = model_outcome(a, &Call::DueCount(*p, *from, *to)).reply;
+        }
+        _ => {}
+    }),
+];
+
 #[test]
 fn a_program_wrong_about_far_slots_is_found_out() {
     for (what, program) in WRONG_ABOUT_FAR_SLOTS {
         let found = failure(&["random_broken"], 20_000, 2, &side(*program));
+        assert!(found.is_some(), "{what}: passes for right");
+    }
+    for (what, program) in WRONG_ABOUT_FAR_EVENTS {
+        let found = failure(&["random_due"], 20_000, 2, &side(*program));
         assert!(found.is_some(), "{what}: passes for right");
     }
 }
@@ -907,7 +1297,7 @@ fn a_case_is_shown_with_the_words_that_differ() {
             o.arena.prev[q.slot as usize - 1] = a.prev[q.slot as usize - 1];
         }
     };
-    let shown = found_out(&["sequences"], 400, one_sided).expect("a wrong program").to_string();
+    let shown = found_out(&["edits"], 2_500, one_sided).expect("a wrong program").to_string();
     let expected = "\
 the export parts from the model
   connect(slot 1, generation 2, slot 2, generation 2)

@@ -18,7 +18,7 @@ use std::time::{Duration, Instant};
 
 use oracle::compare::{Counts, crate_text_found, export_outcome};
 use oracle::runner::Run;
-use oracle::sections::{Form, SECTIONS, Section};
+use oracle::sections::{Form, SECTIONS, Section, WITHOUT_CRATE};
 use oracle::{exports, guards, shrink};
 
 /// What the command line asks for.
@@ -113,7 +113,7 @@ fn complete(section: &Section, counts: Counts) -> Result<Counts, String> {
     if (1..=3).all(exports::linked) && counts.with_exports < counts.cases {
         return Err("an exported call was not asked".to_string());
     }
-    if crate_text_found() && counts.with_crate == 0 {
+    if crate_text_found() && counts.with_crate == 0 && !WITHOUT_CRATE.contains(&section.name) {
         return Err("the crate was not asked".to_string());
     }
     if let Some(number) = section.numbers.iter().find(|&&number| counts.numbers[number] < 100) {

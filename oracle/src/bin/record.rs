@@ -4,14 +4,15 @@
 //! `cargo run --release -p oracle --bin record`, where the crate's files are at hand (GLUE.md). The answers are those of the
 //! crate's own text; for a damaged arena its `_check_invariants` gives the number, with 11 the model the slot and the side,
 //! and REFERENCE, Replies the rest: nothing is written, and the further fields are 0, but for a step's, which are its state as
-//! it got it. Where the crate has no answer (1, 6, 14, 15 and 16, and what else its types cannot hold) the model's is taken.
-//! No exported call has a part in it.
+//! it got it. Where the crate has no answer (1, 6, 14, 15, 16 and 19, the lines of a frame, and what else its types cannot hold)
+//! the model's is taken. No exported call has a part in it.
 //!
 //! The cases come from fixed seeds: all arenas of up to five slots that pass the check, random ones of a few slots,
 //! generations around the largest, noise in words that are not read, and damaged arenas. Of each call and each number that
 //! it answers some are kept, and some more of each mark that a case can have, as the kind of an insertion or the side on
-//! which a link is broken.
+//! which a link is broken. Of the two calls that take no arena every line is there, and the ends of every line.
 
+use std::cmp::Ordering;
 use std::collections::{BTreeMap, BTreeSet};
 use std::fs;
 use std::path::{Path, PathBuf};
@@ -20,17 +21,18 @@ use oracle::calls::call_of;
 use oracle::compare::{Outcome, crate_number, crate_outcome, crate_text_found, model_outcome};
 use oracle::header::GENERATION;
 use oracle::random::{self, Random};
-use oracle::words::CALLS_IN_ALL;
-use oracle::{Arena, COMMAND_WORDS, Call, Reading, Reply, cases, kind, model, side};
+use oracle::words::{CALLS_IN_ALL, DUE_COUNT, DUE_EVENTS, LINE_DOTS, LINE_OF_DOT};
+use oracle::{Arena, COMMAND_WORDS, Call, Ptr, Reading, Reply, cases, frame, kind, model, side};
 
 /// The programs, each with the codes of its calls.
-const PROGRAMS: [(&str, &[usize]); 6] = [
+const PROGRAMS: [(&str, &[usize]); 7] = [
     ("replay_read", &[1, 2, 3, 4, 5, 6]),
     ("replay_edits", &[7, 8, 9, 10, 13, 14, 15]),
     ("replay_removal", &[11, 12]),
     ("replay_run", &[16]),
     ("replay_compress", &[17, 18]),
     ("replay_insert", &[19]),
+    ("replay_clock", &[LINE_OF_DOT, LINE_DOTS, DUE_COUNT, DUE_EVENTS]),
 ];
 
 /// The most slots of a case, and the most words of its arguments or of the slice that it lends.
@@ -56,9 +58,18 @@ fn main() {
     let mut kept: BTreeMap<(usize, u32), Vec<[String; 2]>> = BTreeMap::new();
     let mut by_model = 0;
     let tried = (1..=CALLS_IN_ALL).flat_map(|code| (0..SEEDS).map(move |seed| (code, seed)));
-    for (code, seed) in tried {
+    for call in lines() {
+        let after = model_outcome(&no_arena(), &call);
+        let case = case_line(&no_arena(), &call).expect("a short line");
+        kept.entry((call.code(), after.reply.number)).or_default().push([case, answer_line(&after)]);
+        by_model += 1;
+    }
+    for (code, seed) in tried.filter(|(code, _)| !matches!(*code, LINE_OF_DOT | LINE_DOTS)) {
         let mut r = Random::new(((code as u64) << 32) + seed);
-        let before = some_arena(&mut r, &small);
+        let mut before = some_arena(&mut r, &small);
+        if matches!(code, DUE_COUNT | DUE_EVENTS) {
+            before = random::with_dots(&mut r, before);
+        }
         let call = call_of(code, &mut r, &before, &[]);
         let Some(case) = case_line(&before, &call) else { continue };
         let answered = crate_answer(&before, &call);
@@ -91,6 +102,20 @@ fn main() {
         "{all} cases in all, {} with the crate's answer and {by_model} with the model's",
         all - by_model
     );
+}
+
+/// What stands for an arena in the cases of calls that take none.
+fn no_arena() -> Arena {
+    Arena { header: vec![0; 4], ..Arena::empty(0) }
+}
+
+/// The calls that take no arena: every line, the first and the last dot of every line, and numbers past them.
+fn lines() -> impl Iterator<Item = Call> {
+    let past = [frame::DOTS, frame::DOTS + 1, 65_536 + frame::DOTS, 1 << 31, u32::MAX];
+    let ends = (0..frame::DOTS).filter(|dot| matches!(dot % frame::LINE_DOTS, 0 | 340));
+    let past_lines = [frame::LINES, frame::LINES + 1, 65_535, 65_536, 1 << 31, u32::MAX];
+    let dots = ends.chain(past).map(Call::LineOfDot);
+    dots.chain((0..frame::LINES).chain(past_lines).map(Call::LineDots))
 }
 
 /// The place of one of a program's files.
@@ -136,7 +161,7 @@ fn shorten(a: &mut Arena) {
 }
 
 /// What is special about a case.
-#[derive(Clone, Copy, PartialEq, Eq, PartialOrd, Ord)]
+#[derive(Clone, Copy, Debug, PartialEq, Eq, PartialOrd, Ord)]
 enum Mark {
     /// The answer is the crate's
     ByCrate,
@@ -171,10 +196,46 @@ enum Mark {
     Kind(u32, ToTake),
     /// The run has a command of this code with this answer, and what there is for it if it is an insertion
     Command(u32, u32, Option<ToTake>),
+    /// The window's ends are in order, equal, or it crosses the frame's end, and of the chain's links none is due, some are or all
+    Window(Ordering, Share),
+    /// Of a chain that is open or closed, in whose middle the walk begins or not, some links are due
+    Walked {
+        closed: bool,
+        middle: bool,
+    },
+    /// The window ends with the frame
+    ToTheEnd,
+    /// A payload is an end of the window
+    AtStart,
+    AtEnd,
+    /// A payload is 89,342 or more
+    PastTheFrame,
+    /// The report is as long as the chain, longer, too short by one word, or empty
+    Report(Room),
+    /// A stale pointer or too short a report comes with a window that is none
+    BadWindow,
+}
+
+/// How many of the links of a chain are due.
+#[derive(Clone, Copy, Debug, PartialEq, Eq, PartialOrd, Ord)]
+enum Share {
+    None,
+    Some,
+    All,
+}
+
+/// How long a report is, measured by the chain.
+#[derive(Clone, Copy, Debug, PartialEq, Eq, PartialOrd, Ord)]
+enum Room {
+    Empty,
+    OneShort,
+    Exact,
+    More,
+    Less,
 }
 
 /// Which slot there is for an insertion.
-#[derive(Clone, Copy, PartialEq, Eq, PartialOrd, Ord)]
+#[derive(Clone, Copy, Debug, PartialEq, Eq, PartialOrd, Ord)]
 enum ToTake {
     /// A root that leads on to another free slot
     Root,
@@ -232,6 +293,7 @@ fn marks(before: &Arena, after: &Outcome, by_crate: bool) -> Vec<Mark> {
         mark(stack > 0 && !before.is_link(stack), Mark::FreeEnd);
         mark(stack < before.capacity(), Mark::Room);
         marks.extend(marks_of_kind(before, after));
+        marks.extend(marks_of_due(before, after));
     }
     if after.reply.number == 11 {
         marks.extend(marks_of_broken(before, &after.reply));
@@ -269,6 +331,56 @@ fn marks_of_kind(before: &Arena, after: &Outcome) -> Vec<Mark> {
         }
         _ => vec![],
     }
+}
+
+/// The marks of what is due.
+fn marks_of_due(before: &Arena, after: &Outcome) -> Vec<Mark> {
+    let (p, from, to, report): (Ptr, u32, u32, Option<usize>) = match &after.call {
+        Call::DueCount(p, from, to) => (*p, *from, *to, None),
+        Call::DueEvents(p, from, to, report) => (*p, *from, *to, Some(report.len())),
+        _ => return vec![],
+    };
+    let mut marks = vec![];
+    let mut mark = |holds: bool, mark| {
+        if holds {
+            marks.push(mark)
+        }
+    };
+    let in_the_frame = from < frame::DOTS && to <= frame::DOTS;
+    if after.reply.number == 12 {
+        mark(!in_the_frame, Mark::BadWindow);
+        return marks;
+    }
+    let chain = model::chain_of(before, p.slot.into());
+    if let Some(words) = report {
+        let room = match words {
+            words if words > chain.len() => Room::More,
+            words if words == chain.len() => Room::Exact,
+            0 => Room::Empty,
+            words if words + 1 == chain.len() => Room::OneShort,
+            _ => Room::Less,
+        };
+        mark(true, Mark::Report(room));
+        mark(!in_the_frame && words < chain.len(), Mark::BadWindow);
+    }
+    if after.reply.number == 0 {
+        let due = after.reply.words[0] as usize;
+        let share = match due {
+            0 => Share::None,
+            all if all == chain.len() => Share::All,
+            _ => Share::Some,
+        };
+        let closed = chain.iter().all(|&s| before.next[s - 1] != 0);
+        let middle = before.prev[chain[0] - 1] != 0 && before.next[chain[0] - 1] != 0;
+        let payloads: Vec<u32> = chain.iter().map(|&s| before.payload[s - 1]).collect();
+        mark(true, Mark::Window(from.cmp(&to), share));
+        mark(due > 1, Mark::Walked { closed, middle });
+        mark(to == frame::DOTS, Mark::ToTheEnd);
+        mark(payloads.contains(&from), Mark::AtStart);
+        mark(payloads.contains(&to), Mark::AtEnd);
+        mark(payloads.iter().any(|&payload| payload >= frame::DOTS), Mark::PastTheFrame);
+    }
+    marks
 }
 
 /// What the crate answers and leaves, if its types can hold the case and it has the call.
@@ -344,10 +456,14 @@ fn case_line(before: &Arena, call: &Call) -> Option<String> {
 }
 
 /// The line of an answer: number, broken and side, the further fields, then the lent slice, the columns and the header as
-/// they are afterwards.
+/// they are afterwards; of a call that takes no arena the number and the further fields alone.
 fn answer_line(after: &Outcome) -> String {
-    let mut words = vec![after.reply.number, after.reply.broken, after.reply.side];
-    words.extend(&after.reply.words[..after.call.fields().len()]);
+    let (reply, fields) = (&after.reply, &after.reply.words[..after.call.fields().len()]);
+    if !after.call.takes_arena() {
+        return line_of([&[reply.number], fields].concat());
+    }
+    let mut words = vec![reply.number, reply.broken, reply.side];
+    words.extend(fields);
     words.extend(after.call.lent());
     words.extend(columns(&after.arena));
     line_of(words)
@@ -356,6 +472,7 @@ fn answer_line(after: &Outcome) -> String {
 #[cfg(test)]
 mod tests {
     use oracle::compare::crate_place;
+    use oracle::words::calls_on_arenas;
 
     use super::*;
 
@@ -395,6 +512,9 @@ mod tests {
             16 => &[14, 16],
             17 | 18 => &[14, 100],
             19 => &[16, 17, 18],
+            LINE_OF_DOT | LINE_DOTS => return vec![0, 19],
+            DUE_COUNT => &[12, 19],
+            DUE_EVENTS => &[12, 14, 19],
             _ => &[],
         };
         (0..=11).chain(own.iter().copied()).collect()
@@ -470,6 +590,59 @@ mod tests {
         }
     }
 
+    /// Every line is there, and both ends of every line.
+    #[test]
+    fn stored_lines_are_all_there() {
+        let stored: BTreeSet<(usize, Vec<u32>)> = stored()
+            .iter()
+            .map(|(case, _)| case_of(case).1)
+            .filter(|call| !call.takes_arena())
+            .map(|call| (call.code(), call.arguments()))
+            .collect();
+        assert_eq!(stored, lines().map(|call| (call.code(), call.arguments())).collect());
+        assert_eq!(stored.len(), 3 * 262 + 11);
+    }
+
+    /// What is due is there in windows of every kind, on open and closed chains from their middle and from an end, with payloads
+    /// at both ends of the window and past the frame, and with reports of every length that matters.
+    #[test]
+    fn stored_windows_are_of_every_kind() {
+        let mut found = BTreeSet::new();
+        for (case, _) in stored() {
+            let (before, call) = case_of(&case);
+            let after = model_outcome(&before, &call);
+            let number = after.reply.number;
+            if !(1..=11).contains(&number) {
+                let marks = marks_of_due(&before, &after).into_iter();
+                found.extend(marks.map(|mark| (call.code(), number, mark)));
+            }
+        }
+        let mut wanted = vec![];
+        for code in [DUE_COUNT, DUE_EVENTS] {
+            let shares = [Share::None, Share::Some, Share::All];
+            let windows = [Ordering::Less, Ordering::Greater]
+                .into_iter()
+                .flat_map(|ends| shares.map(|share| Mark::Window(ends, share)));
+            let walked = [(false, false), (false, true), (true, true)]
+                .map(|(closed, middle)| Mark::Walked { closed, middle });
+            let others = [
+                Mark::Window(Ordering::Equal, Share::None),
+                Mark::ToTheEnd,
+                Mark::AtStart,
+                Mark::AtEnd,
+                Mark::PastTheFrame,
+            ];
+            wanted.extend(windows.chain(walked).chain(others).map(|mark| (code, 0, mark)));
+            wanted.push((code, 12, Mark::BadWindow));
+        }
+        wanted.push((DUE_EVENTS, 19, Mark::BadWindow));
+        wanted.extend([Room::Exact, Room::More].map(|room| (DUE_EVENTS, 0, Mark::Report(room))));
+        wanted.extend([Room::Empty, Room::OneShort].map(|room| (DUE_EVENTS, 14, Mark::Report(room))));
+        for (code, number, mark) in wanted {
+            assert!(found.contains(&(code, number, mark)), "call {code} with {number}: {mark:?}");
+        }
+    }
+
     /// Every call is refused with 11 at either side, at a slot above the first, and where one slot or more are broken.
     #[test]
     fn stored_broken_links_are_of_every_kind() {
@@ -483,7 +656,7 @@ mod tests {
         }
         let sides = [Mark::Side(side::PREV), Mark::Side(side::NEXT), Mark::BothSides];
         let wanted = sides.into_iter().chain([Mark::HigherSlot, Mark::OneBroken, Mark::MoreBroken]);
-        for (code, mark) in (1..=CALLS_IN_ALL).flat_map(|code| wanted.clone().map(move |mark| (code, mark))) {
+        for (code, mark) in calls_on_arenas().flat_map(|code| wanted.clone().map(move |mark| (code, mark))) {
             assert!(found.contains(&(code, mark)), "call {code}");
         }
     }

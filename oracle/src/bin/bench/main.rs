@@ -14,10 +14,11 @@ use std::env;
 use std::hint::black_box;
 use std::time::{Duration, Instant};
 
+use chain_arena::{Dot, Line};
 use oracle::calls::{self, Tide};
-use oracle::compare::crate_text_found;
+use oracle::compare::{Outcome, crate_text_found, model_outcome};
 use oracle::random::{self, Random, Style};
-use oracle::{Arena, COMMAND_WORDS, Call, LIMIT, Ptr, Reading, exports, model, side};
+use oracle::{Arena, COMMAND_WORDS, Call, LIMIT, Ptr, Reading, exports, frame, model, side};
 
 use before::Columns;
 
@@ -32,10 +33,11 @@ fn main() {
     if !crate_text_found() {
         println!("The crate's files are not at hand: the live comparison was skipped.");
     }
-    let sections: [(&str, usize, fn()); 9] = [
+    let sections: [(&str, usize, fn()); 10] = [
         ("check", 1, check_section),
         ("before", 1, before_section),
         ("read", 1, read_section),
+        ("due", 1, due_section),
         ("run", 2, run_section),
         ("grow", 2, grow_section),
         ("drain", 2, drain_section),
@@ -161,6 +163,100 @@ fn sum_chain(arena: &Arena, p: Ptr) -> u64 {
     let checked = arena.as_arena().checked().expect("an arena that passes");
     let links = checked.chain(p).expect("a link of the arena");
     links.map(|(p, link)| u64::from(p.slot) + u64::from(link.payload)).sum()
+}
+
+/// What is due of one scattered chain, counted and reported, its check in its time; and a plain loop over the crate's chain with
+/// the same test of the payload, with the crate's check before it and without. Of the loop's forms the quickest counts, row by
+/// row. Then how long the line of a dot and the dots of a line take.
+fn due_section() {
+    println!(
+        "due: one scattered chain, nanoseconds a link; a plain loop over the crate's chain with its check before it, and without"
+    );
+    let half = frame::DOTS / 2;
+    let windows = [
+        ("one line", (131 * frame::LINE_DOTS, 132 * frame::LINE_DOTS)),
+        ("half a frame", (0, half)),
+        ("over its end", (frame::DOTS - half / 2, half - half / 2)),
+    ];
+    let mut quickest = [0; DUE_FORMS.len()];
+    for slots in [2_048, LIMIT] {
+        for (shape, closed) in [("open", 0), ("closed", 16)] {
+            let arena = clocked(slots, slots, closed);
+            let p = arena.ptr(1);
+            for (what, (from, to)) in windows {
+                let calls = [Call::DueCount(p, from, to), Call::DueEvents(p, from, to, vec![0; slots])];
+                for (name, call) in ["count", "events"].into_iter().zip(calls) {
+                    quickest[due_row(&format!("{name}, {shape}, {what}"), slots, &arena, call)] += 1;
+                }
+            }
+        }
+        // The report has room for the chain, but not for all links: whether it has is found out by a walk before, on both sides.
+        let arena = clocked(slots, slots / 2, 0);
+        let long = |s: &usize| model::chain_of(&arena, *s).len() == slots / 2;
+        let p = arena.ptr(arena.link_slots().find(long).expect("a chain of half the links"));
+        let call = Call::DueEvents(p, 0, half, vec![0; slots / 2]);
+        quickest[due_row("events, half of the links", slots / 2, &arena, call)] += 1;
+    }
+    let of_forms = quickest.iter().zip(DUE_FORMS).map(|(rows, form)| format!("{}: {rows}", form.name()));
+    println!("  rows by the quickest loop: {}", of_forms.collect::<Vec<_>>().join("; "));
+    let dots = nanos_each(&(0..frame::DOTS).filter_map(Dot::new).collect::<Vec<_>>(), Dot::line);
+    let lines: Vec<Line> = (0..frame::DOTS).filter_map(|item| Line::new(item % frame::LINES)).collect();
+    println!(
+        "  nanoseconds a call: line_of_dot {dots:.2}, line_dots {:.2}",
+        nanos_each(&lines, Line::window)
+    );
+}
+
+/// The nanoseconds of one of many calls that are made one after the other.
+fn nanos_each<T: Copy, R>(items: &[T], call: impl Fn(T) -> R) -> f64 {
+    let side: Side = Box::new(again(|| items.iter().for_each(|item| _ = black_box(call(*item)))));
+    measure(ROUNDS, vec![Some(side)]).nanos[0].unwrap_or(0.0) / items.len() as f64
+}
+
+/// Measures one call for what is due of a chain of so many links against the quickest form of the plain loop, and answers which
+/// that is.
+fn due_row(kind: &str, links: usize, arena: &Arena, call: Call) -> usize {
+    let expected = model_outcome(arena, &call);
+    let theirs = |form, check| crate_due(arena, &call, DUE_FORMS[form], check, &expected);
+    let times = measure(ROUNDS, (0..DUE_FORMS.len()).map(|form| theirs(form, false)).collect()).nanos;
+    let quickest =
+        (0..times.len()).min_by(|&one, &other| times[one].partial_cmp(&times[other]).expect("numbers"));
+    let form = quickest.unwrap_or(0);
+    let (mut mine, mut made) = (arena.clone(), call.clone());
+    assert_eq!(exports::perform(&mut mine, &mut made), Some(expected.reply));
+    let ours: Side =
+        Box::new(again(move || _ = black_box(exports::perform(black_box(&mut mine), black_box(&mut made)))));
+    let medians = measure(ROUNDS, vec![Some(ours), theirs(form, true), theirs(form, false)]);
+    row(arena.capacity(), kind, links, &medians);
+    form
+}
+
+/// The forms of the plain loop: by the crate's own iterator, or by slots; an event written behind a branch, or every time, what
+/// stood there if the link is not due.
+const DUE_FORMS: [DueForm; 4] = [
+    DueForm { by_slots: false, branch: true },
+    DueForm { by_slots: false, branch: false },
+    DueForm { by_slots: true, branch: true },
+    DueForm { by_slots: true, branch: false },
+];
+
+/// A form of the plain loop.
+#[derive(Clone, Copy)]
+struct DueForm {
+    by_slots: bool,
+    branch: bool,
+}
+
+impl DueForm {
+    /// The form in words.
+    fn name(self) -> &'static str {
+        match (self.by_slots, self.branch) {
+            (false, true) => "the crate's iterator",
+            (false, false) => "the crate's iterator, no branch",
+            (true, true) => "slots",
+            (true, false) => "slots, no branch",
+        }
+    }
 }
 
 /// The commands of a run whose figures are quoted.
@@ -380,6 +476,15 @@ fn chains_of_eight(capacity: usize, links: usize) -> Arena {
     alike(random::whole(&mut Random::new(1), capacity, links, style))
 }
 
+/// Links on scattered chains of so many, open or closed, with dots for payloads; a tenth of them is past the frame.
+fn clocked(links: usize, longest: usize, closed: usize) -> Arena {
+    let mut r = Random::new(3);
+    let style = Style { free: 0, longest, even: true, scattered: true, closed };
+    let mut arena = alike(random::whole(&mut r, links, links, style));
+    arena.payload.fill_with(|| r.below(100_000) as u32);
+    arena
+}
+
 /// The arena with generation 5 for all its links and the header.
 fn alike(mut a: Arena) -> Arena {
     a.generation.fill(5);
@@ -538,6 +643,82 @@ fn crate_sum(arena: &Arena, p: Ptr, check: bool, expected: u64) -> Option<Side<'
     })))
 }
 
+/// The crate's side of what is due, which must come to what the model leaves.
+#[cfg(crate_text)]
+fn crate_due<'a>(
+    arena: &Arena,
+    call: &Call,
+    form: DueForm,
+    check: bool,
+    expected: &Outcome,
+) -> Option<Side<'a>> {
+    let held = Crate::hold(arena)?;
+    let (p, from, to, mut report) = match call.clone() {
+        Call::DueCount(p, from, to) => (p, from, to, None),
+        Call::DueEvents(p, from, to, report) => (p, from, to, Some(report)),
+        _ => return None,
+    };
+    let due = move |report: Option<&mut [u16]>| {
+        let held = black_box(&held);
+        assert!(!check || held.check_invariants().is_ok());
+        // What kind of window it is is found out before the loop.
+        if from <= to {
+            let length = to - from;
+            plain_due(held, p, form, report, |payload| payload.wrapping_sub(from) < length)
+        } else {
+            let test = |payload| payload < frame::DOTS && (payload >= from || payload < to);
+            plain_due(held, p, form, report, test)
+        }
+    };
+    assert_eq!(due(report.as_deref_mut()) as u32, expected.reply.words[0]);
+    assert!(report.iter().flatten().map(|&slot| u32::from(slot)).eq(expected.call.lent()));
+    Some(Box::new(again(move || _ = black_box(due(black_box(report.as_deref_mut()))))))
+}
+
+/// The plain loop: how many links of a chain a test takes, and in a report their slots. As nothing may be written into a report
+/// that is shorter than the chain, the chain is counted first unless the report has room for all links.
+#[cfg(crate_text)]
+#[inline(always)]
+fn plain_due(
+    held: &Crate,
+    p: Ptr,
+    form: DueForm,
+    report: Option<&mut [u16]>,
+    test: impl Fn(u32) -> bool,
+) -> usize {
+    if let Some(report) = report.as_ref().filter(|report| report.len() < held.links()) {
+        let mut links = 0;
+        held.visit_by_slots(p, |_, _| links += 1).expect("a link of the arena");
+        assert!(links <= report.len());
+    }
+    let mut count = 0;
+    match (report, form) {
+        (None, DueForm { by_slots: false, .. }) => {
+            held.visit_by_walk(p, |_, payload| count += usize::from(test(payload)))
+        }
+        (None, _) => held.visit_by_slots(p, |_, payload| count += usize::from(test(payload))),
+        (Some(report), DueForm { by_slots, branch: true }) => {
+            let visit = |slot, payload| {
+                if test(payload) {
+                    report[count] = slot;
+                    count += 1;
+                }
+            };
+            if by_slots { held.visit_by_slots(p, visit) } else { held.visit_by_walk(p, visit) }
+        }
+        (Some(report), DueForm { by_slots, branch: false }) => {
+            let visit = |slot, payload| {
+                let due = test(payload);
+                report[count] = if due { slot } else { report[count] };
+                count += usize::from(due);
+            };
+            if by_slots { held.visit_by_slots(p, visit) } else { held.visit_by_walk(p, visit) }
+        }
+    }
+    .expect("a link of the arena");
+    count
+}
+
 /// The crate's side of a call that changes the arena.
 #[cfg(crate_text)]
 fn crate_side<'a>(arena: &'a Arena, call: impl Fn(&mut Crate) + 'a) -> Option<Side<'a>> {
@@ -608,6 +789,11 @@ fn crate_check(_: &Arena) -> Option<Side<'_>> {
 
 #[cfg(not(crate_text))]
 fn crate_sum(_: &Arena, _: Ptr, _: bool, _: u64) -> Option<Side<'_>> {
+    None
+}
+
+#[cfg(not(crate_text))]
+fn crate_due<'a>(_: &Arena, _: &Call, _: DueForm, _: bool, _: &Outcome) -> Option<Side<'a>> {
     None
 }
 
