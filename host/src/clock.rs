@@ -216,7 +216,7 @@ impl Window {
         self.start.0 == self.end
     }
 
-    /// Whether it has a dot. Plain Rust, tested to say of a payload what the proved calls say.
+    /// Whether the dot is in it. Plain Rust, tested to say of a payload what the proved calls say.
     #[must_use]
     pub const fn contains(self, dot: Dot) -> bool {
         let (from, before) = (self.start.0 <= dot.0, dot.0 < self.end);
@@ -292,8 +292,7 @@ impl fmt::Display for Line {
 #[derive(Clone, Copy, Debug)]
 #[must_use]
 pub struct Due<'a, 'r> {
-    /// Their slots in the walk's order. They borrow the report alone, so that they can be kept while the arena changes.
-    pub slots: &'r [Slot],
+    pub(crate) slots: &'r [Slot],
     pub(crate) arena: Arena<'a>,
 }
 
@@ -307,6 +306,12 @@ pub struct DueEvent {
 }
 
 impl<'a, 'r> Due<'a, 'r> {
+    /// Their slots in the walk's order. They borrow the report alone, so that they can be kept while the arena changes.
+    #[must_use]
+    pub fn slots(&self) -> &'r [Slot] {
+        self.slots
+    }
+
     /// The links with their dots, in the walk's order.
     #[must_use = "iterators are lazy and do nothing unless consumed"]
     pub fn events(&self) -> impl ExactSizeIterator<Item = DueEvent> + use<'a, 'r> {

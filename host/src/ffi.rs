@@ -172,7 +172,7 @@ done! {
 #[cfg(feature = "level-one")]
 #[rustfmt::skip]
 unsafe extern "C" {
-    /// Whether the arena can be worked with: 0, else the first rule that fails, 1 to 11. Every other call begins with it.
+    /// Whether the arena can be worked with: 0, else the first rule that fails, 1 to 11. Every other call on an arena begins with it.
     pub fn chain_arena_check(
         prev: *const u16, prev_len: usize, next: *const u16, next_len: usize,
         generation: *const u32, generation_len: usize, payload: *const u32, payload_len: usize,

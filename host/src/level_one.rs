@@ -128,7 +128,7 @@ impl<'a> Arena<'a> {
     /// assert_eq!(arena.due_count(p, line.window())?, 2);
     /// let mut report = [0; 3];
     /// let due = arena.due_events(p, line.window(), &mut report)?;
-    /// assert_eq!(due.slots, [2, 1]);
+    /// assert_eq!(due.slots(), [2, 1]);
     /// assert!(due.events().map(|event| event.dot.place()).eq([0, 340]));
     /// # Ok::<(), chain_arena::Refusal>(())
     /// ```

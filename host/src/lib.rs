@@ -1,7 +1,7 @@
 //! The chain arena's proved calls, safe to use from Rust, without `std`.
 //!
 //! An arena is lent as five slices: prev, next, generation and payload by slot, and a header of four words. [`Arena`] reads
-//! it (Level One), [`ArenaMut`] edits it (Level Two) and compresses it (Level Three). Every call checks the arena first,
+//! it (Level One), [`ArenaMut`] edits it (Level Two) and compresses it (Level Three). Every call on an arena checks it first,
 //! answers on any words, and says with a number why it refuses; a refused call has written nothing. Level One also has a
 //! clock for payloads that are dots of a frame: `Dot`, `Line` and `Window`.
 //!
@@ -21,7 +21,7 @@
 //! };
 //! let p = Ptr { slot: 3, generation: 5 };
 //! # #[cfg(feature = "level-one")] {
-//! assert_eq!(arena.get_link(p)?.payload, 30); // checks the arena, as every call does
+//! assert_eq!(arena.get_link(p)?.payload, 30); // checks the arena, as every call on it does
 //! let checked = arena.checked()?; // checks it once, for any number of reads
 //! assert_eq!(checked.link(p)?.payload, 30);
 //! assert!(checked.chain(p)?.map(|(p, link)| (p.slot, link.payload)).eq([(3, 30), (1, 10)]));

@@ -18,7 +18,7 @@ impl Done {
     /// The number of a call that was done and made the current generation overflow.
     pub(crate) const OVERFLOWED: u32 = 100;
 
-    /// What the first three words of a call's result stand for.
+    /// What the first three words of the result of a call on an arena stand for.
     pub(crate) const fn of(number: u32, broken: u32, side: u32) -> Result<Self, Refusal> {
         match number {
             0 => Ok(Self { overflowed: false }),

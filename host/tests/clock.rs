@@ -162,7 +162,7 @@ fn what_is_due_comes_in_the_order_of_the_walk() {
             assert_eq!(arena.due_count(p, window), Ok(due.len()), "{told}");
             let mut report = vec![999; walk.len() + 2];
             let answer = arena.due_events(p, window, &mut report).unwrap();
-            assert_eq!(answer.slots, due, "{told}");
+            assert_eq!(answer.slots(), due, "{told}");
             let events: Vec<DueEvent> = due
                 .iter()
                 .map(|&slot| DueEvent { ptr: ptr(&columns, slot), dot: dot(payload(slot)) })
@@ -298,7 +298,26 @@ fn the_slots_can_be_kept_while_the_arena_changes() {
         .as_arena()
         .due_events(Ptr { slot: 7, generation: 10 }, Window::FRAME, &mut report)
         .unwrap()
-        .slots;
+        .slots();
     columns.payload.fill(0);
     assert_eq!(slots, [7, 1, 12, 2, 9]);
+}
+
+/// One chain in all slots of an arena: the owned arena's own report has room for it.
+#[test]
+fn an_owned_arena_reports_a_chain_of_all_its_slots() {
+    let arena = OwnedArena {
+        prev: vec![0, 1, 2, 3],
+        next: vec![2, 3, 4, 0],
+        generation: vec![5; 4],
+        payload: vec![3, 2, 1, 0],
+        header: vec![4, 4, 0, 5],
+    };
+    let events = arena.due_events(ptr(&arena, 2), Window::FRAME).unwrap();
+    assert!(events.iter().map(|event| (event.ptr.slot, event.dot.get())).eq([
+        (2, 2),
+        (3, 1),
+        (4, 0),
+        (1, 3)
+    ]));
 }

@@ -212,7 +212,7 @@ pub fn pointers(a: &Arena) -> Vec<Ptr> {
     pointers
 }
 
-/// Every call of Level One with every pointer of the list, and every step with start and position 0 to the stack length
+/// Every reading call with every pointer of the list, and every step with start and position 0 to the stack length
 /// and 1, both directions, and 0 to the stack length and 1 advances left.
 pub fn each_reading(a: &Arena, mut found: impl FnMut(Call)) {
     found(Call::Check);

@@ -73,8 +73,8 @@ fn level_one(a: &Arena, call: &mut Call) -> Option<Reply> {
             let window = Window::of(*from, *to)?;
             reply(arena.due_events(*p, window, report).map(|due| {
                 assert!(due.events().all(|event| window.contains(event.dot)));
-                assert!(due.events().map(|event| event.ptr).eq(due.slots.iter().map(|&s| a.ptr(s.into()))));
-                (0, vec![due.slots.len() as u32])
+                assert!(due.events().map(|event| event.ptr).eq(due.slots().iter().map(|&s| a.ptr(s.into()))));
+                (0, vec![due.slots().len() as u32])
             }))
         }
         _ => return None,

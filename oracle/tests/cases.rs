@@ -4,7 +4,7 @@
 use std::collections::{HashMap, HashSet};
 
 use oracle::cases::{self, COUNTS};
-use oracle::compare::{Counts, compare, crate_place, crate_text_found};
+use oracle::compare::{Counts, compare, crate_outcome, crate_place, crate_text_found, model_outcome};
 use oracle::random::{self, Near, Random};
 use oracle::{Arena, Call, Reading, Reply, demand3, frame, guards, model, side};
 
@@ -195,4 +195,24 @@ fn the_chains_of_edges_have_every_edge() {
         }
         assert_eq!(a.links(), 2 * edges.len());
     }
+}
+
+/// The cases of section `due` tell windows apart: there are chains with some links due and others not, in straight windows and
+/// in crossing ones, and the slots that are due are not always in rising order. The crate answers a part of them.
+#[test]
+fn what_is_due_in_small_arenas_is_of_every_kind() {
+    let (mut straight, mut crossing, mut not_rising, mut by_crate) = (0, 0, 0, 0);
+    for a in (0..=3).flat_map(cases::clocked_arenas) {
+        cases::each_due(&a, |call| {
+            let after = model_outcome(&a, &call);
+            let (Call::DueEvents(p, from, to, report), 0) = (&after.call, after.reply.number) else { return };
+            let (all, due) = (model::chain_of(&a, p.slot.into()).len(), after.reply.words[0] as usize);
+            let some_of_it = usize::from(0 < due && due < all);
+            *if from <= to { &mut straight } else { &mut crossing } += some_of_it;
+            not_rising += usize::from(!report[..due].is_sorted());
+            by_crate += usize::from(crate_outcome(&a, &call).is_some());
+        });
+    }
+    assert!(straight > 1_000 && crossing > 1_000 && not_rising > 500, "{straight} {crossing} {not_rising}");
+    assert!(by_crate > 10_000 || !crate_text_found(), "{by_crate}");
 }

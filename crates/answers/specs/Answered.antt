@@ -18,6 +18,6 @@ pub record Verdict (a : Arena) (r : Answer) : Type 0 where
 abbrev pub replied : Answer → List ℕ → Arena → List ℕ → Reply
 replied r fields left back = record { number = r .number; broken = r .broken; side = r .side; fields = fields; arena = left; back = back }
 
--- the promise of every exported call at the port's own limits: to the call c on the arena a, with l handed in, it replied what is defined
+-- the promise of every exported call on an arena at the port's own limits: to the call c on the arena a, with l handed in, it replied what is defined
 abbrev pub Answered : Call → Arena → List ℕ → Answer → List ℕ → Arena → List ℕ → Type 0
 Answered c a l r fields left back = replied r fields left back ≡ replyTo capacityLimit largestGeneration c a l

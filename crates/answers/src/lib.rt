@@ -1,10 +1,10 @@
-// What every exported call has in common: the check that it makes first, and the words that its result begins with.
+// What every exported call on an arena has in common: the check that it makes first, and the words that its result begins with.
 ghost use mathlib.Core.Path.{_≡_};
 ghost use Rattle.definitions.specs.Lent.{atEntry};
 ghost use Rattle.answers.specs.Answered.{Verdict};
 use chain_arena::check;
 
-// What every exported result begins with: its number, and with 11 the lowest slot at which that rule fails and the side, 1 for prev and 2 for next; in every
+// What the result of every exported call on an arena begins with: its number, and with 11 the lowest slot at which that rule fails and the side, 1 for prev and 2 for next; in every
 // other case slot and side are 0 (REFERENCE, Replies).
 #[repr(C)]
 pub struct Answer {

@@ -1,17 +1,15 @@
 -- What the steps of the two calls found and wrote is what the definitions say. Assumes nothing.
-use Prim.Native.Nat.{ℕ, _≤_}
-use mathlib.Core.Path.{_≡_, refl, sym, _∙_}
-use mathlib.Core.Bool.{Bool, true, false}
+use Prim.Native.Nat.{ℕ}
+use mathlib.Core.Path.{_≡_, refl}
+use mathlib.Core.Bool.{true, false}
 use mathlib.Core.List.{List, []}
 use lib.ListN.{length}
 use lib.Dec.{ltb}
-use borrow.Author.Tests.{le-ltb, ltb-false}
 use Rattle.definitions.specs.Columns.{written}
 use Rattle.definitions.specs.Arena.{Arena}
 use Rattle.definitions.specs.Clock.{isWindow, dueSlots, dueCount, dueEvents}
 use Rattle.definitions.specs.Read.{Pointer}
 use Rattle.definitions.specs.Walk.{walkStart}
-use Rattle.definitions.proofs.Tests.{came-true, came-false}
 use Rattle.chain_iterators.specs.Walk.{walkOf, startReply}
 use Rattle.chain_iterators.specs.declared.ChainPtrAdvancer.{ChainPtrAdvancer}
 use Rattle.chain_iterators.specs.declared.Started.the-variants.{Stale as StaleStart}

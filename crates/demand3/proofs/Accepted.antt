@@ -26,7 +26,7 @@ use Rattle.demand3.proofs.Equivalence.{links-laid, canonical-accepted, 
 -- ---- the numbers of answers
 
 -- 0, or 100 where the generation overflowed
-number-accepts : (top : ℕ) (reset : Bool) (a : Arena) → (compressNumber top reset a ≡ 0) ⊎ (compressNumber top reset a ≡ 100)
+pub number-accepts : (top : ℕ) (reset : Bool) (a : Arena) → (compressNumber top reset a ≡ 0) ⊎ (compressNumber top reset a ≡ 100)
 unfolding compressNumber
 number-accepts top reset a = go (raises reset a) (overflows top (current a))
   where

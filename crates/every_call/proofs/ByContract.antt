@@ -4,7 +4,7 @@
 use Prim.Native.Nat.{ℕ, suc, _≤_, _<_, _/_, _%_}
 use mathlib.Core.Path.{_≡_, sym, ap, subst, _∙_}
 use mathlib.Core.Logic.{_⊎_, inl, inr, _↔_}
-use mathlib.Core.Bool.{Bool}
+use mathlib.Core.Bool.{Bool, false}
 use mathlib.Core.List.{List, [], _∷_, map}
 use native.Mathlib.Omega.{arith}
 use lib.ListN.{length, take}
@@ -13,7 +13,7 @@ use Rattle.definitions.specs.Columns.{at, written}
 use Rattle.definitions.specs.Arena.{Arena, capacity, capacityLimit, largestGeneration, stackLength, linkCount, current, linkSlots}
 use Rattle.definitions.specs.Check.{verdict, WellFormed}
 use Rattle.definitions.specs.Reply.{Reply, reply}
-use Rattle.definitions.specs.Read.{Pointer}
+use Rattle.definitions.specs.Read.{Pointer, stale}
 use Rattle.definitions.specs.Walk.{walkFrom}
 use Rattle.definitions.specs.Insert.{InsertKind, nowhere, placeOf, newSlot, kind, kindOf}
 use Rattle.definitions.specs.Run.{Command, commandWords, commandsOf, apply, applied, answersOf}
@@ -35,7 +35,7 @@ use Rattle.every_call.proofs.RefusalChangesNothing.{refusal-changes-not
 use Rattle.every_call.proofs.EveryCallKeeps.{every-call-keeps, any-calls-keep, inside-a-run}
 use Rattle.every_call.proofs.RunIsFold.{one-command, reply-of-a-run, callsOf, run-by-calls}
 use Rattle.every_call.proofs.FrameLines.{lines-part-the-frame}
-use Rattle.every_call.proofs.Due.{due-counted, due-in-walk-order}
+use Rattle.every_call.proofs.Due.{due-counted, due-in-walk-order, done-exactly}
 use Rattle.every_call.proofs.IgnoresPayloads.{compression-ignores-payloads}
 use Rattle.every_call.proofs.Insertions.{done-insert-places, seventeen-exactly-by-call, full-exactly-by-call}
 
@@ -110,6 +110,14 @@ module _ (limit top : ℕ) (a : Arena) (l : List ℕ) (r : Reply) where
   pub due-by-contract : (q : Pointer) (from to : ℕ) → r ≡ replyTo limit top (DueEvents q from to) a l → r .number ≡ 0 → ReportsDue a (q .slot) from to l r
   due-by-contract q from to p done =
       subst (λ (s : Reply). ReportsDue a (q .slot) from to l s) (sym p) (due-in-walk-order limit top a q from to l (ap (λ (s : Reply). s .number) (sym p) ∙ done))
+
+  -- when they are done, for a good pointer in an arena that passes the check
+  pub count-done-by-contract : (q : Pointer) (from to : ℕ) → r ≡ replyTo limit top (DueCount q from to) a l → verdict limit a ≡ 0 → stale a q ≡ false → (r .number ≡ 0) ↔ ((from < 89342) × (to ≤ 89342))
+  count-done-by-contract q from to p passes good = rw p (done-exactly limit top a q from to passes good l l .0)
+
+  pub due-done-by-contract : (q : Pointer) (from to : ℕ) → r ≡ replyTo limit top (DueEvents q from to) a l → verdict limit a ≡ 0 → stale a q ≡ false →
+      (r .number ≡ 0) ↔ ((from < 89342) × (to ≤ 89342) × (length (walkFrom a (q .slot)) ≤ length l))
+  due-done-by-contract q from to p passes good = rw p (done-exactly limit top a q from to passes good l l .1)
 
 -- the lines, of any two functions that answer as the two calls without an arena do
 pub lines-by-contract : (ofDot dotsOf : ℕ → Told) → ((dot : ℕ) → ofDot dot ≡ lineOfDot dot) → ((line : ℕ) → dotsOf line ≡ lineDots line) → LinesPart ofDot dotsOf

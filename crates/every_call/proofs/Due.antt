@@ -1,5 +1,5 @@
--- What is due of a chain: `due-in-walk-order` and `due-counted` for the two calls that answer it, `nineteen-exactly` and `fourteen-exactly` for their
--- refusals, `windows-part`, `windows-part-a-chain` and `counts-add-up` for two windows of which each goes on where the other ends. Assumes nothing.
+-- What is due of a chain: `due-in-walk-order` and `due-counted` for the two calls that answer it, `twelve-exactly`, `nineteen-exactly`, `fourteen-exactly` and
+-- `done-exactly` for their numbers, `counts-agree`, `windows-part`, `windows-part-a-chain` and `counts-add-up` for two windows of which each goes on where the other ends. Assumes nothing.
 use Prim.Native.Nat.{ℕ, _+_, _≤_, _<_}
 use mathlib.Core.Path.{_≡_, refl, sym, ap₂, _∙_}
 use mathlib.Core.Logic.{_⊎_, inl, inr, _↔_}
@@ -16,7 +16,7 @@ use Rattle.definitions.specs.Clock.{frameDots, isWindow, due, dueSlots, dueCoun
 use Rattle.definitions.specs.Read.{Pointer, stale}
 use Rattle.definitions.specs.Walk.{walkFrom}
 use Rattle.definitions.specs.Calls.{DueCount, DueEvents, accepted, replyTo}
-use Rattle.definitions.proofs.Count.{In, keep-has, keep-lacks}
+use Rattle.definitions.proofs.Count.{keep-has, keep-lacks}
 use Rattle.definitions.proofs.Pointers.{fresh-link}
 use Rattle.definitions.proofs.Tests.{by-test, both-first, both-second, not-second}
 use Rattle.statements.specs.FrameClock.{DueIn, Thinned, DueOf, CountsDue, ReportsDue, WindowsPart, ChainParted}
@@ -83,22 +83,22 @@ due-of limit a ok o link from to = record {
 }
 
 module _ (a : Arena) (p : Pointer) (from to : ℕ) where
-  count-done : (l : List ℕ) → dueCount a p from to l .number ≡ 0 → (stale a p ≡ false) × (dueCount a p from to l .fields ≡ length (dueSlots a (p .slot) from to) ∷ [])
+  count-done : (l : List ℕ) → dueCount a p from to l .number ≡ 0 → (stale a p ≡ false) × (dueCount a p from to l .fields ≡ length (dueSlots a (p .slot) from to) ∷ []) × (dueCount a p from to l .arena ≡ a)
   unfolding dueCount
   count-done l e =
       by-test (stale a p)
       (λ s. absurd (omega (arith, rw s at e)))
-      (λ s. by-test (isWindow from to) (λ w. (s, rw (s, w) refl)) (λ w. absurd (omega (arith, rw (s, w) at e))))
+      (λ s. by-test (isWindow from to) (λ w. (s, rw (s, w) refl, rw (s, w) refl)) (λ w. absurd (omega (arith, rw (s, w) at e))))
 
   events-done :
       (report : List ℕ) → dueEvents a p from to report .number ≡ 0
-      → (stale a p ≡ false) × (dueEvents a p from to report .fields ≡ length (dueSlots a (p .slot) from to) ∷ []) × (dueEvents a p from to report .back ≡ written (dueSlots a (p .slot) from to) report)
+      → (stale a p ≡ false) × (dueEvents a p from to report .fields ≡ length (dueSlots a (p .slot) from to) ∷ []) × (dueEvents a p from to report .back ≡ written (dueSlots a (p .slot) from to) report) × (dueEvents a p from to report .arena ≡ a)
   unfolding dueEvents
   events-done report e =
       by-test (stale a p)
       (λ s. absurd (omega (arith, rw s at e)))
       (λ s. by-test (isWindow from to)
-      (λ w. by-test (ltb (length report) (length (walkFrom a (p .slot)))) (λ t. absurd (omega (arith, rw (s, w, t) at e))) (λ t. (s, rw (s, w, t) refl, rw (s, w, t) refl)))
+      (λ w. by-test (ltb (length report) (length (walkFrom a (p .slot)))) (λ t. absurd (omega (arith, rw (s, w, t) at e))) (λ t. (s, rw (s, w, t) refl, rw (s, w, t) refl, rw (s, w, t) refl)))
       (λ w. absurd (omega (arith, rw (s, w) at e))))
 
 module _ (limit top : ℕ) (a : Arena) (p : Pointer) (from to : ℕ) where
@@ -113,6 +113,7 @@ module _ (limit top : ℕ) (a : Arena) (p : Pointer) (from to : ℕ) where
         slots = dueSlots a (p .slot) from to;
         due = due-of limit a (well-formed-if-passes limit a (eqb-true (verdict limit a) 0 v)) (p .slot) (fresh-link a p (did .0)) from to;
         fields = did .1;
+        left = did .2;
       }))
       (λ v. absurd (eqb-false (verdict limit a) 0 v (rw v at e)))
 
@@ -128,10 +129,45 @@ module _ (limit top : ℕ) (a : Arena) (p : Pointer) (from to : ℕ) where
         due = due-of limit a (well-formed-if-passes limit a (eqb-true (verdict limit a) 0 v)) (p .slot) (fresh-link a p (did .0)) from to;
         fields = did .1;
         back = did .2;
+        left = did .3;
       }))
       (λ v. absurd (eqb-false (verdict limit a) 0 v (rw v at e)))
 
--- ---- the refusals, where the check has passed and the pointer is good
+  -- both calls count the same
+  pub counts-agree :
+      (l report : List ℕ) → replyTo limit top (DueCount p from to) a l .number ≡ 0 → replyTo limit top (DueEvents p from to) a report .number ≡ 0
+      → replyTo limit top (DueCount p from to) a l .fields ≡ replyTo limit top (DueEvents p from to) a report .fields
+  unfolding replyTo accepted
+  counts-agree l report e f =
+      by-test (eqb (verdict limit a) 0)
+      (λ v. rw v (count-done a p from to l (rw v at e) .1 ∙ sym (events-done a p from to report (rw v at f) .1)))
+      (λ v. absurd (eqb-false (verdict limit a) 0 v (rw v at e)))
+
+-- ---- the numbers, where the check has passed
+
+-- 12 comes exactly where the pointer is stale, whatever the ends and the report are
+module _ (limit top : ℕ) (a : Arena) (p : Pointer) (from to : ℕ) (passes : verdict limit a ≡ 0) where
+  pub twelve-exactly : (l report : List ℕ) →
+      ((replyTo limit top (DueCount p from to) a l .number ≡ 12) ↔ (stale a p ≡ true))
+      × ((replyTo limit top (DueEvents p from to) a report .number ≡ 12) ↔ (stale a p ≡ true))
+  unfolding replyTo accepted dueCount dueEvents
+  twelve-exactly l report =
+      rw (eq-eqb (verdict limit a) 0 passes) (
+        (
+          λ is. by-test (stale a p) (λ s. s) (λ s. absurd (by-test (isWindow from to) (λ w. omega (arith, rw (s, w) at is)) (λ w. omega (arith, rw (s, w) at is)))),
+          λ s. rw s refl,
+        ),
+        (
+          λ is. by-test (stale a p)
+              (λ s. s)
+              (λ s. absurd (by-test (isWindow from to)
+              (λ w. by-test (ltb (length report) (length (walkFrom a (p .slot)))) (λ t. omega (arith, rw (s, w, t) at is)) (λ t. omega (arith, rw (s, w, t) at is)))
+              (λ w. omega (arith, rw (s, w) at is)))),
+          λ s. rw s refl,
+        ),
+      )
+
+-- the others, where the pointer is good
 
 module _ (limit top : ℕ) (a : Arena) (p : Pointer) (from to : ℕ) (passes : verdict limit a ≡ 0) (good : stale a p ≡ false) where
   no-window : (isWindow from to ≡ false) ↔ ((89342 ≤ from) ⊎ (89342 < to))
@@ -178,6 +214,32 @@ module _ (limit top : ℕ) (a : Arena) (p : Pointer) (from to : ℕ) (passes : v
         λ is. by-test (ltb (length report) (length (walkFrom a (p .slot)))) (ltb-true (length report) _) (λ t. absurd (omega (arith, rw t at (sym says ∙ is)))),
         λ few. says ∙ rw (lt-ltb (length report) _ few) refl,
       )
+
+  -- and 0 exactly where none of these comes, so that there is no other number
+  a-window : (isWindow from to ≡ true) ↔ ((from < 89342) × (to ≤ 89342))
+  unfolding isWindow
+  a-window = (
+    λ e. (ltb-true from frameDots (both-first (ltb from frameDots) (leb to frameDots) e), leb-true to frameDots (both-second (ltb from frameDots) (leb to frameDots) e)),
+    λ h. rw (lt-ltb from frameDots (h .0), le-leb to frameDots (h .1)) refl,
+  )
+
+  pub done-exactly : (l report : List ℕ) →
+      ((replyTo limit top (DueCount p from to) a l .number ≡ 0) ↔ ((from < 89342) × (to ≤ 89342)))
+      × ((replyTo limit top (DueEvents p from to) a report .number ≡ 0) ↔ ((from < 89342) × (to ≤ 89342) × (length (walkFrom a (p .slot)) ≤ length report)))
+  done-exactly l report = (
+    (
+      λ is. by-test (isWindow from to) (a-window .0) (λ w. absurd (omega (arith, rw w at (sym (count-says l) ∙ is)))),
+      λ h. count-says l ∙ rw (a-window .1 h) refl,
+    ),
+    (
+      λ is. by-test (isWindow from to)
+          (λ w. by-test (ltb (length report) (length (walkFrom a (p .slot))))
+          (λ t. absurd (omega (arith, rw (w, t) at (sym (events-say report) ∙ is))))
+          (λ t. (a-window .0 w .0, a-window .0 w .1, ltb-false (length report) _ t)))
+          (λ w. absurd (omega (arith, rw w at (sym (events-say report) ∙ is)))),
+      λ h. events-say report ∙ rw (a-window .1 (h .0, h .1), le-ltb (length report) _ (h .2)) refl,
+    ),
+  )
 
 -- ---- two windows
 

@@ -1,8 +1,7 @@
--- The lines of the frame: `lines-part-the-frame`. Assumes nothing.
+-- The lines of the frame: `lines-part-the-frame`, and `dot-in-its-line` for the words that two calls answered. Assumes nothing.
 use Prim.Native.Nat.{ℕ, suc, _+_, _≤_, _<_}
 use mathlib.Core.Path.{_≡_, refl, sym, ap, ap₂, _∙_}
-use mathlib.Core.Bool.{true, false}
-use mathlib.Core.List.{List, [], _∷_}
+use mathlib.Core.List.{[], _∷_}
 use native.Mathlib.Omega.{arith}
 use lib.ListN.{getD}
 use lib.Dec.{ltb}
@@ -71,3 +70,22 @@ lines-part-the-frame = record {
   no-dot = λ dot h. sym (no-dot dot h);
   no-line = λ line h. sym (no-line line h);
 }
+
+-- the words of two answers: the line that was answered for a dot has it between the ends that were answered for that line
+pub dot-in-its-line :
+    (dot n line m first last : ℕ) → told n (line ∷ []) ≡ lineOfDot dot → told m (first ∷ last ∷ []) ≡ lineDots line → dot < 89342
+    → (n ≡ 0) × (m ≡ 0) × (line < 262) × (first ≤ dot) × (dot ≤ last) × (last ≡ first + 340)
+unfolding word firstDot lastDot
+dot-in-its-line dot n line m first last e f h =
+    let line-is : line ≡ lineOf dot = ap (word 0) (e ∙ sym (of-dot dot h)) in
+    let few : line < 262 = rw line-is (few-lines dot h) in
+    let first-is : first ≡ firstDot line = ap (word 0) (f ∙ sym (dots-of line few)) in
+    let last-is : last ≡ lastDot line = ap (word 1) (f ∙ sym (dots-of line few)) in
+    let there = in-line dot in (
+      ap (λ (r : Told). r .number) (e ∙ sym (of-dot dot h)),
+      ap (λ (r : Told). r .number) (f ∙ sym (dots-of line few)),
+      few,
+      rw (first-is, line-is) (there .0),
+      rw (last-is, line-is) (there .1),
+      rw (first-is, last-is) refl,
+    )

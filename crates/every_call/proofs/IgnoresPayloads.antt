@@ -1,6 +1,6 @@
 -- Neither compression looks at a payload: `compression-ignores-payloads`. Both lay links out in an order that is read off prev, next and generation alone.
 -- Assumes nothing.
-use Prim.Native.Nat.{ℕ, zero, suc, _*_, _≤_}
+use Prim.Native.Nat.{ℕ, zero, suc, _*_}
 use mathlib.Core.Path.{_≡_, refl, sym, ap, ap₂, subst, _∙_}
 use mathlib.Core.Logic.{_⊎_, inl, inr}
 use mathlib.Core.Bool.{Bool, true, false}
@@ -9,29 +9,28 @@ use native.Mathlib.Omega.{arith}
 use native.Mathlib.Decide.{ℕ-discrete}
 use lib.ListN.{length, take, replicate, length-map}
 use lib.Dec.{eqb, ltb}
-use borrow.Author.Tests.{eqb-true, eqb-false, ltb-false, eq-eqb, ne-eqb}
-use Rattle.definitions.specs.Columns.{at, settled, written}
-use Rattle.definitions.specs.Arena.{Arena, arena, capacity, stackLength, linkCount, current, linkSlots}
-use Rattle.definitions.specs.Edit.{overflows}
-use Rattle.definitions.specs.Check.{misshapen, verdict, brokenSlot, brokenSide, WellFormed}
+use borrow.Author.Tests.{eqb-true, eqb-false}
+use Rattle.definitions.specs.Columns.{at, settled}
+use Rattle.definitions.specs.Arena.{Arena, arena, capacity, stackLength, linkCount, linkSlots}
+use Rattle.definitions.specs.Check.{verdict, WellFormed, SameRead}
 use Rattle.definitions.specs.Compress.{raises, compressGeneration, compressNumber, relocate, movesOf, compressWith, compressCanonical, startOf}
 use Rattle.definitions.specs.Reply.{Reply, reply, refusal}
-use Rattle.definitions.specs.Calls.{Call, CompressWith, CompressCanonical, accepted, refusedByCheck, replyTo}
+use Rattle.definitions.specs.Calls.{Call, CompressWith, CompressCanonical, accepted, replyTo}
 use Rattle.definitions.proofs.Fields.{fields-length}
 use Rattle.definitions.proofs.Numbers.{verdict-most}
 use Rattle.definitions.proofs.Parts.{length-settled, take-settled}
 use Rattle.definitions.proofs.Tests.{by-test}
 use Rattle.statements.specs.Demand3.{Accepted}
-use Rattle.statements.specs.FrameClock.{SameButPayloads, CarriedTo, IgnoresPayloads}
+use Rattle.statements.specs.FrameClock.{SameButPayloads, IgnoresPayloads}
 use Rattle.chains.proofs.Find.{along, chainFrom}
 use Rattle.chains.proofs.Links.{well-formed-linked}
-use Rattle.renaming.proofs.CompressWith.{compress-with-accepted}
 use Rattle.renaming.proofs.Orders.{OrderOf, rising-order, order-within}
 use Rattle.demand3.proofs.Bring.{brings}
 use Rattle.demand3.proofs.Order.{lowestLink, chainsFrom, canonicalChains, canonicalOrder, canonical-order}
+use Rattle.demand3.proofs.Accepted.{number-accepts}
 use Rattle.demand3.proofs.Equivalence.{links-laid, canonical-accepted, canonical-refused}
+use Rattle.well_formed.proofs.ReadsOnly.{verdict-reads-only, broken-reads-only}
 use Rattle.well_formed.proofs.WellFormed.{well-formed-if-passes}
-use Rattle.every_call.proofs.RefusalChangesNothing.{refusal-changes-nothing}
 
 -- the arena with other payloads
 abbrev over : Arena → List ℕ → Arena
@@ -73,17 +72,20 @@ module _ (a : Arena) (vs : List ℕ) where
 -- ---- the replies on an arena and on one with other payloads
 
 module _ (limit : ℕ) (a : Arena) (vs : List ℕ) (same : length (a .payload) ≡ length vs) where
+  read-alike : SameRead a (over a vs)
+  read-alike = record {
+    header = refl;
+    prev-length = refl;
+    next-length = refl;
+    generation-length = refl;
+    payload-length = same;
+    generation = λ s i. refl;
+    next = λ s i. refl;
+    prev = λ s i. refl;
+  }
+
   verdict-same : verdict limit a ≡ verdict limit (over a vs)
-  unfolding verdict misshapen
-  verdict-same = rw same refl
-
-  broken-same : brokenSlot limit a ≡ brokenSlot limit (over a vs)
-  unfolding brokenSlot
-  broken-same = rw verdict-same refl
-
-  side-same : brokenSide limit a ≡ brokenSide limit (over a vs)
-  unfolding brokenSide
-  side-same = rw (verdict-same, broken-same) refl
+  verdict-same = verdict-reads-only limit a (over a vs) read-alike
 
   alike : SameButPayloads a (over a vs)
   alike = record { prev = refl; next = refl; generation = refl; payload-length = same; header = refl }
@@ -135,21 +137,13 @@ module _ (limit : ℕ) (a : Arena) (vs : List ℕ) (same : length (a .payload) �
         refused = λ not-done. absurd (not-done done);
       }
 
-  -- the number of a compression that is done
-  number-done : (top : ℕ) (reset : Bool) → (compressNumber top reset a ≡ 0) ⊎ (compressNumber top reset a ≡ 100)
-  unfolding compressNumber
-  number-done top reset =
-      by-test (raises reset a)
-      (λ e. by-test (overflows top (current a)) (λ f. inr (rw (e, f) refl)) (λ f. inl (rw (e, f) refl)))
-      (λ e. inl (rw e refl))
-
   -- where the check has passed
   with-ignores : (top : ℕ) (reset : Bool) (l : List ℕ) → WellFormed limit a → IgnoresPayloads a (over a vs) (linkSlots (a .generation) (stackLength a)) (compressWith top reset a l) (compressWith top reset (over a vs) l)
   unfolding compressWith compressGeneration compressNumber raises
   with-ignores top reset l ok =
       by-test (ltb (length l) (4 * linkCount a))
       (λ t. rw t (kept-own 14 0 l (λ e. omega (arith, e)) (λ e. omega (arith, e))))
-      (λ t. rw (t, moves-same a vs) (laid-out ok (rising-order a) _ _ _ (number-done top reset)))
+      (λ t. rw (t, moves-same a vs) (laid-out ok (rising-order a) _ _ _ (number-accepts top reset a)))
 
   canonical-ignores :
       (top : ℕ) (reset : Bool) (l : List ℕ) → WellFormed limit a → WellFormed limit (over a vs)
@@ -161,7 +155,7 @@ module _ (limit : ℕ) (a : Arena) (vs : List ℕ) (same : length (a .payload) �
             let w = canonicalOrder a in
             let front : take (linkCount a) (settled (stackLength a) w l) ≡ w = rw (← links-laid limit top a ok reset l) (take-settled (stackLength a) w l) in
             rw (canonical-accepted limit top a ok reset l e, canonical-accepted limit top (over a vs) other-ok reset l e, order-same a vs, front)
-            (laid-out ok (canonical-order a (well-formed-linked ok)) _ _ _ (number-done top reset))
+            (laid-out ok (canonical-order a (well-formed-linked ok)) _ _ _ (number-accepts top reset a))
         | no d ↦ rw (canonical-refused limit top a ok reset l d, canonical-refused limit top (over a vs) other-ok reset l d) (kept-own 14 0 l (λ e. omega (arith, e)) (λ e. omega (arith, e)))
       ]
 
@@ -174,7 +168,7 @@ module _ (limit : ℕ) (a : Arena) (vs : List ℕ) (same : length (a .payload) �
     any-ignores own =
         by-test (eqb (verdict limit a) 0)
         (λ t. rw (← verdict-same, t) (own (well-formed-if-passes limit a (eqb-true _ _ t)) (well-formed-if-passes limit (over a vs) (rw (← verdict-same) (eqb-true _ _ t)))))
-        (λ t. rw (← verdict-same, t) (kept _ _ refl broken-same side-same (ap (λ (n : ℕ). replicate n 0) (fields-length top c a l ∙ sym (fields-length top c (over a vs) l))) refl refl refl
+        (λ t. rw (← verdict-same, t) (kept _ _ refl (broken-reads-only a (over a vs) read-alike limit .0) (broken-reads-only a (over a vs) read-alike limit .1) (ap (λ (n : ℕ). replicate n 0) (fields-length top c a l ∙ sym (fields-length top c (over a vs) l))) refl refl refl
         (λ done. elim done [ inl e ↦ eqb-false (verdict limit a) 0 t e | inr e ↦ omega (arith, e, verdict-most limit a) ])))
 
 -- ---- both compressions, on arenas that differ in payloads alone

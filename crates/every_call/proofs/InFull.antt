@@ -19,7 +19,7 @@ use Rattle.definitions.specs.Remove.{drain}
 use Rattle.definitions.specs.Insert.{InsertKind, nowhere, placeOf, newSlot, insert, kind, unknown, kindOf}
 use Rattle.definitions.specs.Run.{Command, commandsOf, apply, applied, answersOf}
 use Rattle.definitions.specs.Compress.{compressGeneration, relocate, compressWith, laidOut, canonicalArena, compressCanonical}
-use Rattle.definitions.specs.Clock.{Told, lineOfDot, lineDots, dueSlots}
+use Rattle.definitions.specs.Clock.{Told, told, lineOfDot, lineDots, dueSlots}
 use Rattle.definitions.specs.Calls.{Call, Made, Check, WalkStart, WalkStep, DueCount, DueEvents, Insert, Drain, Run, CompressWith, CompressCanonical, accepted, replyTo, callOf, repliesTo, arenaAfter}
 use Rattle.definitions.proofs.Tests.{by-test, not-eq}
 use Rattle.statements.specs.Chains.{IsOpen, IsClosed, Chain, Alike, Listing, OnOneChain, Renaming, pieces, replaced, Paired, HoldTheSame}
@@ -60,11 +60,11 @@ use Rattle.every_call.proofs.EveryCallKeeps.{every-call-keeps, any-call
 use Rattle.every_call.proofs.CapacityStays.{capacity-stays, capacity-after-calls}
 use Rattle.every_call.proofs.RunIsFold.{reply-of-a-run, command-by-call, run-by-calls, one-command}
 use Rattle.every_call.proofs.Insertions.{insert-by-call, no-such-kind, sixteen-exactly, seventeen-exactly-by-call, full-exactly-by-call, done-insert-places, insertion-answers, grown-from-empty}
-use Rattle.every_call.proofs.FrameLines.{lines-part-the-frame}
-use Rattle.every_call.proofs.Due.{due-counted, due-in-walk-order, nineteen-exactly, fourteen-exactly, windows-part, windows-part-a-chain, counts-add-up}
+use Rattle.every_call.proofs.FrameLines.{lines-part-the-frame, dot-in-its-line}
+use Rattle.every_call.proofs.Due.{due-counted, due-in-walk-order, twelve-exactly, nineteen-exactly, fourteen-exactly, done-exactly, counts-agree, windows-part, windows-part-a-chain, counts-add-up}
 use Rattle.every_call.proofs.IgnoresPayloads.{compression-ignores-payloads}
 use Rattle.every_call.proofs.ContractDetermines.{contract-determines, contract-can-be-kept, programs-agree}
-use Rattle.every_call.proofs.ByContract.{due-counted-by-contract, due-by-contract, lines-by-contract, compress-with-ignores-by-contract, canonical-ignores-by-contract, refusal-by-contract, kept-by-contract, drain-by-contract, insert-by-contract, seventeen-by-contract, full-by-contract, demand-3-by-contract, demand-3-of-the-port, run-by-contract, run-calls-by-contract, check-by-contract, well-formed-after-calls, well-formed-after-commands, answers-are-words}
+use Rattle.every_call.proofs.ByContract.{due-counted-by-contract, due-by-contract, count-done-by-contract, due-done-by-contract, lines-by-contract, compress-with-ignores-by-contract, canonical-ignores-by-contract, refusal-by-contract, kept-by-contract, drain-by-contract, insert-by-contract, seventeen-by-contract, full-by-contract, demand-3-by-contract, demand-3-of-the-port, run-by-contract, run-calls-by-contract, check-by-contract, well-formed-after-calls, well-formed-after-commands, answers-are-words}
 
 -- ---- the check
 
@@ -323,6 +323,10 @@ grown-from-empty-in-full = grown-from-empty
 pub lines-part-the-frame-in-full : LinesPart lineOfDot lineDots
 lines-part-the-frame-in-full = lines-part-the-frame
 
+pub dot-in-its-line-in-full : (dot n line m first last : ℕ) → told n (line ∷ []) ≡ lineOfDot dot → told m (first ∷ last ∷ []) ≡ lineDots line → dot < 89342
+    → (n ≡ 0) × (m ≡ 0) × (line < 262) × (first ≤ dot) × (dot ≤ last) × (last ≡ first + 340)
+dot-in-its-line-in-full = dot-in-its-line
+
 -- of any two functions that answer as the calls do
 pub lines-by-contract-in-full : (ofDot dotsOf : ℕ → Told) → ((dot : ℕ) → ofDot dot ≡ lineOfDot dot) → ((line : ℕ) → dotsOf line ≡ lineDots line) → LinesPart ofDot dotsOf
 lines-by-contract-in-full = lines-by-contract
@@ -335,7 +339,12 @@ module _ (limit top : ℕ) (a : Arena) (p : Pointer) (from to : ℕ) where
       → ReportsDue a (p .slot) from to report (replyTo limit top (DueEvents p from to) a report)
   due-in-walk-order-in-full = due-in-walk-order limit top a p from to
 
-  -- the refusals of a good pointer in an arena that passes the check
+  -- the numbers in an arena that passes the check: first of any pointer, then of a good one
+  pub twelve-exactly-in-full : verdict limit a ≡ 0 → (l report : List ℕ) →
+      ((replyTo limit top (DueCount p from to) a l .number ≡ 12) ↔ (stale a p ≡ true))
+      × ((replyTo limit top (DueEvents p from to) a report .number ≡ 12) ↔ (stale a p ≡ true))
+  twelve-exactly-in-full = twelve-exactly limit top a p from to
+
   pub nineteen-exactly-in-full : verdict limit a ≡ 0 → stale a p ≡ false → (l report : List ℕ) →
       ((replyTo limit top (DueCount p from to) a l .number ≡ 19) ↔ ((89342 ≤ from) ⊎ (89342 < to)))
       × ((replyTo limit top (DueEvents p from to) a report .number ≡ 19) ↔ ((89342 ≤ from) ⊎ (89342 < to)))
@@ -344,6 +353,15 @@ module _ (limit top : ℕ) (a : Arena) (p : Pointer) (from to : ℕ) where
   pub fourteen-exactly-in-full : verdict limit a ≡ 0 → stale a p ≡ false → from < 89342 → to ≤ 89342 → (report : List ℕ)
       → (replyTo limit top (DueEvents p from to) a report .number ≡ 14) ↔ (length report < length (walkFrom a (p .slot)))
   fourteen-exactly-in-full = fourteen-exactly limit top a p from to
+
+  pub done-exactly-in-full : verdict limit a ≡ 0 → stale a p ≡ false → (l report : List ℕ) →
+      ((replyTo limit top (DueCount p from to) a l .number ≡ 0) ↔ ((from < 89342) × (to ≤ 89342)))
+      × ((replyTo limit top (DueEvents p from to) a report .number ≡ 0) ↔ ((from < 89342) × (to ≤ 89342) × (length (walkFrom a (p .slot)) ≤ length report)))
+  done-exactly-in-full = done-exactly limit top a p from to
+
+  pub counts-agree-in-full : (l report : List ℕ) → replyTo limit top (DueCount p from to) a l .number ≡ 0 → replyTo limit top (DueEvents p from to) a report .number ≡ 0
+      → replyTo limit top (DueCount p from to) a l .fields ≡ replyTo limit top (DueEvents p from to) a report .fields
+  counts-agree-in-full = counts-agree limit top a p from to
 
 module _ {f t : ℕ} (other : f ≡ t → ⊥) where
   pub windows-part-in-full : WindowsPart f t
@@ -507,6 +525,13 @@ module _ (limit top : ℕ) (a : Arena) (l : List ℕ) (r : Reply) where
 
   pub due-by-contract-in-full : (q : Pointer) (from to : ℕ) → r ≡ replyTo limit top (DueEvents q from to) a l → r .number ≡ 0 → ReportsDue a (q .slot) from to l r
   due-by-contract-in-full = due-by-contract limit top a l r
+
+  pub count-done-by-contract-in-full : (q : Pointer) (from to : ℕ) → r ≡ replyTo limit top (DueCount q from to) a l → verdict limit a ≡ 0 → stale a q ≡ false → (r .number ≡ 0) ↔ ((from < 89342) × (to ≤ 89342))
+  count-done-by-contract-in-full = count-done-by-contract limit top a l r
+
+  pub due-done-by-contract-in-full : (q : Pointer) (from to : ℕ) → r ≡ replyTo limit top (DueEvents q from to) a l → verdict limit a ≡ 0 → stale a q ≡ false →
+      (r .number ≡ 0) ↔ ((from < 89342) × (to ≤ 89342) × (length (walkFrom a (q .slot)) ≤ length l))
+  due-done-by-contract-in-full = due-done-by-contract limit top a l r
 
   pub compress-with-ignores-by-contract-in-full : (reset : Bool) (b : Arena) → SameButPayloads a b → (s : Reply) → r ≡ replyTo limit top (CompressWith reset) a l → s ≡ replyTo limit top (CompressWith reset) b l
       → IgnoresPayloads a b (linkSlots (a .generation) (stackLength a)) r s

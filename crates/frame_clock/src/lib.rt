@@ -10,6 +10,12 @@ pub struct Dot(pub u32);
 // A line of the frame, counted from 0.
 pub struct Line(pub u32);
 
+// The ends of a line.
+pub struct LineDots {
+    pub first: Dot,
+    pub last: Dot,
+}
+
 // A window of dots: it begins with one and ends before another; past the end of the frame it goes on at its start.
 pub struct Window {
     pub from: Dot,
@@ -34,18 +40,22 @@ impl Line {
         Dot(LINE_STARTS[self.0 as usize])
     }
 
-    // The last dot of this line.
-    pub fn last(self) -> Dot
+    // The first and the last dot of this line.
+    pub fn dots(self) -> LineDots
         requires { ⌜ self .0 < frameLines ⌝ }
-        ensures { λ r. ⌜ r .0 ≡ lastDot (self .0) ⌝ }
+        ensures { λ r. ⌜ (r .first .0 ≡ firstDot (self .0)) × (r .last .0 ≡ lastDot (self .0)) ⌝ }
     {
-        Dot(self.first().0 + DOTS_PER_LINE - 1)
+        let first = self.first();
+        LineDots {
+            first: first,
+            last: Dot(first.0 + DOTS_PER_LINE - 1),
+        }
     }
 }
 
 impl Dot {
-    // The line of this dot. Three dots in 1,024 are a little less than one in 341, too little for the 262 lines to make a whole line: so this is the line
-    // or the one before it, and the table tells which.
+    // The line of this dot. Three dots in 1,024 are a little less than one in 341; over the whole frame that makes less than one line. So three times the
+    // dot, divided by 1,024, is its line or the line before it, and the table tells which.
     pub fn line(self) -> Line
         requires { ⌜ self .0 < frameDots ⌝ }
         ensures { λ r. ⌜ r .0 ≡ lineOf (self .0) ⌝ }

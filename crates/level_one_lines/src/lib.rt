@@ -51,9 +51,10 @@ pub extern "C" fn chain_arena_line_dots(line: u32) -> LineDotsResult
             last: 0,
         };
     }
+    let dots = Line(line).dots();
     LineDotsResult {
         number: 0,
-        first: Line(line).first().0,
-        last: Line(line).last().0,
+        first: dots.first.0,
+        last: dots.last.0,
     }
 }

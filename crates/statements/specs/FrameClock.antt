@@ -23,7 +23,7 @@ pub record LinesPart (ofDot dotsOf : ℕ → Told) : Type 0 where
   pub no-line : (line : ℕ) → 262 ≤ line → dotsOf line ≡ told 19 (0 ∷ 0 ∷ [])
 
 -- the payload v is due in the window that begins with from and ends before to: it is a dot of the frame; where the window does not cross the end of the
--- frame, v is not before from and before to; where it does, one of the two is enough
+-- frame, v is at or after from, and before to; where it does, one of the two is enough
 pub record DueIn (from to v : ℕ) : Type 0 where
   pub dot : v < 89342
   pub straight : from ≤ to → (from ≤ v) × (v < to)
@@ -40,18 +40,20 @@ pub record DueOf (a : Arena) (o from to : ℕ) (ss : List ℕ) : Type 0 where
   pub order : WalkOrder a o chain
   pub due : Thinned (λ s. DueIn from to (at (a .payload) s)) ss chain
 
--- the reply c tells how many are due of the chain that link s is on
+-- the reply c tells how many are due of the chain that link s is on, and leaves the arena as it was
 pub record CountsDue (a : Arena) (s from to : ℕ) (c : Reply) : Type 0 where
   pub slots : List ℕ
   pub due : DueOf a s from to slots
   pub fields : c .fields ≡ length slots ∷ []
+  pub left : c .arena ≡ a
 
--- the reply r hands back the report with the slots of those that are due, and tells how many they are
+-- the reply r hands back the report with the slots of those that are due, tells how many they are, and leaves the arena as it was
 pub record ReportsDue (a : Arena) (o from to : ℕ) (report : List ℕ) (r : Reply) : Type 0 where
   pub slots : List ℕ
   pub due : DueOf a o from to slots
   pub fields : r .fields ≡ length slots ∷ []
   pub back : r .back ≡ written slots report
+  pub left : r .arena ≡ a
 
 -- what is due from f to t and what is due from t to f are each dot of the frame once
 pub record WindowsPart (f t : ℕ) : Type 0 where

@@ -1,5 +1,4 @@
 -- `chain_due::due_events` meets its contract: the pointer is tried first, then the window, then the room in the report. Assumes nothing.
-use Prim.Native.Nat.{_≤_}
 use borrow.Author.Needs.{needs}
 use borrow.Author.Tests.{ltb-false}
 use Rattle.definitions.specs.Arena.{Arena}

@@ -1,8 +1,7 @@
 -- `chain_due::list_due` meets its contract. The loop's invariant: the due links reported and those still ahead are all that were ahead, and the words
 -- past them are the old ones. The measure is the advances left. Assumes nothing.
 use Prim.Native.Nat.{_+_, _≤_}
-use mathlib.Core.Path.{_≡_, sym, _∙_}
-use mathlib.Core.Bool.{true}
+use mathlib.Core.Path.{sym, _∙_}
 use native.Mathlib.Omega.{arith}
 use borrow.Author.Needs.{needs}
 use Rattle.definitions.specs.Arena.{arena}

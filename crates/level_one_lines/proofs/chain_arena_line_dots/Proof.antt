@@ -13,10 +13,9 @@ returns c = let past : tie.Then1 = search in no-line _ (past .if1 .taken)
 
 returns-2 : tie.Need-returns-2
 returns-2 c =
-    let last : tie.After-last = search in
-    let first : tie.After-first = search in
+    let found : tie.After-dots = search in
     let within : tie.Else1 = search in
-    ap₂ (λ (f l : ℕ). told 0 (f ∷ l ∷ [])) (first .first .ensures) (last .last .ensures) ∙ dots-of _ (within .if1 .left)
+    ap₂ (λ (first last : ℕ). told 0 (first ∷ last ∷ [])) (found .dots .ensures .0) (found .dots .ensures .1) ∙ dots-of _ (within .if1 .left)
 
 pub chain-arena-line-dots-spec : {M : Type 1} → statement M
-chain-arena-line-dots-spec = tie.close (tie.spec returns (λ c κs. search needs) (λ c κs. search needs) returns-2)
+chain-arena-line-dots-spec = tie.close (tie.spec returns (λ c κs. search needs) returns-2)

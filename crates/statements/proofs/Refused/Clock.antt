@@ -185,6 +185,13 @@ counts-due-fields-refused u = none-listed lone 1 7 (u .slots) (u .due) (omega (a
 pub counts-due-more-fields-refused : CountsDue lone 1 7 7 (reply 0 (0 ∷ 0 ∷ []) lone []) → ⊥
 counts-due-more-fields-refused u = omega (arith, ap length (u .fields))
 
+-- a payload that is taken away
+pub counts-due-left-refused : CountsDue lone 1 7 7 (counting 0 (one 0 0 5 0) []) → ⊥
+counts-due-left-refused u = omega (arith, ap (λ (a : Arena). getD (a .payload) 0 0) (u .left))
+
+pub reports-due-left-refused : ReportsDue lone 1 7 7 [] (counting 0 (one 0 0 5 0) []) → ⊥
+reports-due-left-refused u = omega (arith, ap (λ (a : Arena). getD (a .payload) 0 0) (u .left))
+
 -- a report as it was and a count of 0, where a lone link is due
 pub reports-due-due-refused : ReportsDue lone 1 5 9 (3 ∷ []) (counting 0 lone (3 ∷ [])) → ⊥
 reports-due-due-refused u = some-listed (u .slots) (u .due) (ap (λ (l : List ℕ). getD l 0 0) (sym (u .fields)))
@@ -408,13 +415,13 @@ pub due-of-whole : (a : Arena) (o from to : ℕ) (ss : List ℕ) (u : DueOf a o 
     WalkOrder a o (u .chain) × Thinned (λ s. DueIn from to (at (a .payload) s)) ss (u .chain)
 due-of-whole a o from to ss u = (u .order, u .due)
 
-pub counts-due-whole : (a : Arena) (o from to : ℕ) (r : Reply) (u : CountsDue a o from to r) → DueOf a o from to (u .slots) × (r .fields ≡ length (u .slots) ∷ [])
-counts-due-whole a o from to r u = (u .due, u .fields)
+pub counts-due-whole : (a : Arena) (o from to : ℕ) (r : Reply) (u : CountsDue a o from to r) → DueOf a o from to (u .slots) × (r .fields ≡ length (u .slots) ∷ []) × (r .arena ≡ a)
+counts-due-whole a o from to r u = (u .due, u .fields, u .left)
 
 pub reports-due-whole : (a : Arena) (o from to : ℕ) (report : List ℕ) (r : Reply) (u : ReportsDue a o from to report r) →
-    DueOf a o from to (u .slots) × (r .fields ≡ length (u .slots) ∷ []) × (r .back ≡ u .slots ++ drop (length (u .slots)) report)
+    DueOf a o from to (u .slots) × (r .fields ≡ length (u .slots) ∷ []) × (r .back ≡ u .slots ++ drop (length (u .slots)) report) × (r .arena ≡ a)
 unfolding written
-reports-due-whole a o from to report r u = (u .due, u .fields, u .back)
+reports-due-whole a o from to report r u = (u .due, u .fields, u .back, u .left)
 
 pub windows-part-whole : (f t : ℕ) → WindowsPart f t → (v : ℕ) → (v < 89342 → DueIn f t v ⊎ DueIn t f v) × (DueIn f t v → DueIn t f v → ⊥)
 windows-part-whole f t p v = (p .either v, p .not-both v)
