@@ -14,6 +14,7 @@ use Rattle.definitions.specs.Arena.{Arena, allocated, linkSlots}
 use Rattle.definitions.specs.Compress.{place, movesOf}
 use Rattle.definitions.proofs.Columns.{at-suc}
 use Rattle.definitions.proofs.Slots.{allocated-yes, allocated-free, slots-snoc, length-slots, keep-append}
+use Rattle.renaming.proofs.CompressWith.{moves-read}
 use Rattle.compress_moves.specs.Moves.{numbered, Numbered}
 use Rattle.definitions.proofs.Written.{written-none, written-more, written-kept, written-behind, written-parts}
 use Rattle.compress_moves.proofs.Place.{place-lacks, place-has, place-within}
@@ -49,12 +50,6 @@ module _ (a : Arena) (g : ℕ) where
   moves-end s (x ∷ os) o =
       let e : suc (length os) + s ≡ length os + suc s = omega arith in
       rw (e, moves-end (suc s) os o) refl
-
--- the generation column alone is read
-pub moves-read : (a b : Arena) (g s : ℕ) (os : List ℕ) → a .generation ≡ b .generation → movesOf a g s os ≡ movesOf b g s os
-unfolding movesOf
-moves-read a b g s [] e = refl
-moves-read a b g s (o ∷ os) e = rw (moves-read a b g (suc s) os e) (ap (λ (gs : List ℕ). o ∷ at gs o ∷ s ∷ g ∷ movesOf b g (suc s) os) e)
 
 -- ---- a run of stores: what stands before it, up to its end, and behind it
 

@@ -13,7 +13,7 @@ use borrow.Author.Tests.{eqb-true, eqb-false}
 use Rattle.definitions.specs.Columns.{at, settled}
 use Rattle.definitions.specs.Arena.{Arena, arena, capacity, stackLength, linkCount, linkSlots}
 use Rattle.definitions.specs.Check.{verdict, WellFormed, SameRead}
-use Rattle.definitions.specs.Compress.{raises, compressGeneration, compressNumber, relocate, movesOf, compressWith, compressCanonical, startOf}
+use Rattle.definitions.specs.Compress.{raises, compressGeneration, compressNumber, relocate, compressWith, compressCanonical, startOf}
 use Rattle.definitions.specs.Reply.{Reply, reply, refusal}
 use Rattle.definitions.specs.Calls.{Call, CompressWith, CompressCanonical, accepted, replyTo}
 use Rattle.definitions.proofs.Fields.{fields-length}
@@ -24,6 +24,7 @@ use Rattle.statements.specs.Demand3.{Accepted}
 use Rattle.statements.specs.FrameClock.{SameButPayloads, IgnoresPayloads}
 use Rattle.chains.proofs.Find.{along, chainFrom}
 use Rattle.chains.proofs.Links.{well-formed-linked}
+use Rattle.renaming.proofs.CompressWith.{moves-read}
 use Rattle.renaming.proofs.Orders.{OrderOf, rising-order, order-within}
 use Rattle.demand3.proofs.Bring.{brings}
 use Rattle.demand3.proofs.Order.{lowestLink, chainsFrom, canonicalChains, canonicalOrder, canonical-order}
@@ -63,11 +64,6 @@ module _ (a : Arena) (vs : List ℕ) where
   order-same : canonicalOrder (over a vs) ≡ canonicalOrder a
   unfolding canonicalOrder canonicalChains
   order-same = ap flatten (chains-same (stackLength a) _)
-
-  moves-same : (g s : ℕ) (w : List ℕ) → movesOf (over a vs) g s w ≡ movesOf a g s w
-  unfolding movesOf
-  moves-same g s [] = refl
-  moves-same g s (o ∷ os) = ap (λ (l : List ℕ). o ∷ at (a .generation) o ∷ s ∷ g ∷ l) (moves-same g (suc s) os)
 
 -- ---- the replies on an arena and on one with other payloads
 
@@ -143,7 +139,7 @@ module _ (limit : ℕ) (a : Arena) (vs : List ℕ) (same : length (a .payload) �
   with-ignores top reset l ok =
       by-test (ltb (length l) (4 * linkCount a))
       (λ t. rw t (kept-own 14 0 l (λ e. omega (arith, e)) (λ e. omega (arith, e))))
-      (λ t. rw (t, moves-same a vs) (laid-out ok (rising-order a) _ _ _ (number-accepts top reset a)))
+      (λ t. rw (t, moves-read (over a vs) a _ _ _ refl) (laid-out ok (rising-order a) _ _ _ (number-accepts top reset a)))
 
   canonical-ignores :
       (top : ℕ) (reset : Bool) (l : List ℕ) → WellFormed limit a → WellFormed limit (over a vs)

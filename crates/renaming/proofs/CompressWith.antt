@@ -1,14 +1,14 @@
 -- Order-preserving compression: an accepted one is the renaming by slot order, a refused one changes nothing, and either leaves a well formed arena.
 -- The generation that a compression gives is never below 2. Assumes nothing.
-use Prim.Native.Nat.{ℕ, _*_, _≤_}
-use mathlib.Core.Path.{_≡_}
+use Prim.Native.Nat.{ℕ, suc, _*_, _≤_}
+use mathlib.Core.Path.{_≡_, refl, ap}
 use mathlib.Core.Bool.{Bool, true, false}
-use mathlib.Core.List.{List, []}
+use mathlib.Core.List.{List, [], _∷_}
 use native.Mathlib.Omega.{arith}
 use lib.ListN.{length}
 use lib.Dec.{eqb, ltb}
 use borrow.Author.Tests.{le-ltb}
-use Rattle.definitions.specs.Columns.{written}
+use Rattle.definitions.specs.Columns.{at, written}
 use Rattle.definitions.specs.Arena.{Arena, stackLength, linkCount, current, linkSlots}
 use Rattle.statements.specs.Chains.{Renaming}
 use Rattle.definitions.specs.Check.{WellFormed}
@@ -31,6 +31,13 @@ unfolding compressGeneration
 compress-generation-two top true a h = omega arith
 compress-generation-two top false a h =
     by-test (raises false a) (λ e. rw e (next-generation-two top (current a) h)) (λ e. rw e h)
+
+-- ---- the report: of the columns the generations alone are read
+
+pub moves-read : (a b : Arena) (g s : ℕ) (os : List ℕ) → a .generation ≡ b .generation → movesOf a g s os ≡ movesOf b g s os
+unfolding movesOf
+moves-read a b g s [] e = refl
+moves-read a b g s (o ∷ os) e = rw (moves-read a b g (suc s) os e) (ap (λ (gs : List ℕ). o ∷ at gs o ∷ s ∷ g ∷ movesOf b g (suc s) os) e)
 
 -- ---- the call
 
