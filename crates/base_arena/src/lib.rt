@@ -4,33 +4,50 @@ ghost use Prim.Native.Nat.{_+_, _≤_};
 ghost use lib.ListN.{length};
 ghost use Rattle.definitions.specs.Arena.{capacityLimit, linkSlots, freeSlots};
 ghost use Rattle.definitions.specs.Lent.{atEntry};
-ghost use Rattle.definitions.specs.Check.{freelistWalk, countsOf};
+ghost use Rattle.definitions.specs.Check.{misshapen, freelistWalk, countsOf};
 ghost use Rattle.base_arena.specs.Shape.{shapeOf};
 use header::CURRENT_GENERATION;
 use header::HEADER_WORDS;
 use header::LINK_COUNT;
 use header::STACK_LENGTH;
 
+// Whether the lengths of columns and header are wrong: refusal 1.
+pub fn is_misshapen(
+    prev: &[u16],
+    next: &[u16],
+    generation: &[u32],
+    payload: &[u32],
+    header: &[u32],
+) -> bool
+    ensures { λ r. ⌜ r ≡ misshapen capacityLimit (atEntry prev next generation payload header) ⌝ }
+{
+    let capacity = prev.len();
+    if header.len() != HEADER_WORDS {
+        return true;
+    }
+    if 65535 < capacity {
+        return true;
+    }
+    if next.len() != capacity {
+        return true;
+    }
+    if generation.len() != capacity {
+        return true;
+    }
+    if payload.len() != capacity {
+        return true;
+    }
+    false
+}
+
 // Refusals 1 to 3, or 0.
 pub fn shape(prev: &[u16], next: &[u16], generation: &[u32], payload: &[u32], header: &[u32]) -> u32
     ensures { λ r. ⌜ r ≡ shapeOf capacityLimit (atEntry prev next generation payload header) ⌝ }
 {
+    if is_misshapen(prev, next, generation, payload, header) {
+        return 1;
+    }
     let capacity = prev.len();
-    if header.len() != HEADER_WORDS {
-        return 1;
-    }
-    if 65535 < capacity {
-        return 1;
-    }
-    if next.len() != capacity {
-        return 1;
-    }
-    if generation.len() != capacity {
-        return 1;
-    }
-    if payload.len() != capacity {
-        return 1;
-    }
     if header[CURRENT_GENERATION] < 2 {
         return 2;
     }

@@ -10,6 +10,14 @@ use Rattle.definitions.specs.Arena.{Arena, capacity, headerWords, stackL
 use Rattle.definitions.specs.Check.{misshapen, countsOf, allFine, verdict}
 use Rattle.definitions.proofs.Tests.{by-test, pass, neither-parts, tests}
 
+-- what an arena that 1 does not refuse is like: four columns of one length within the limit, a header of four words
+pub record Sized (limit : ℕ) (a : Arena) : Type 0 where
+  pub header : length (a .header) ≡ headerWords
+  pub small : capacity a ≤ limit
+  pub next-length : length (a .next) ≡ capacity a
+  pub generation-length : length (a .generation) ≡ capacity a
+  pub payload-length : length (a .payload) ≡ capacity a
+
 -- what an arena that 1 to 3 do not refuse is like: four columns of one length within the limit, a header of four words that fit it
 pub record Shaped (limit : ℕ) (a : Arena) : Type 0 where
   pub header : length (a .header) ≡ headerWords
@@ -37,14 +45,11 @@ last k true z e = refl
 last k false z e = absurd (omega (arith, rw z at e))
 
 module _ (limit : ℕ) (a : Arena) where
-  -- refusals 1, 2 and 3 did not come, whatever is tested after them
-  pub first-three : (rest : ℕ) → cond (misshapen limit a) 1 (cond (ltb (current a) 2) 2 (cond (ltb (capacity a) (linkCount a) || ltb (capacity a) (stackLength a)) 3 rest)) ≡ 0 → Shaped limit a
+  -- refusal 1 did not come
+  pub sized : misshapen limit a ≡ false → Sized limit a
   unfolding misshapen
-  first-three rest e =
-      let one = pass _ _ _ tt e in
-      let two = pass _ _ _ tt (one .1) in
-      let three = neither-parts _ _ (pass _ _ _ tt (two .1) .0) in
-      let payloads = neither-parts _ _ (one .0) in
+  sized e =
+      let payloads = neither-parts _ _ e in
       let generations = neither-parts _ _ (payloads .0) in
       let nexts = neither-parts _ _ (generations .0) in
       let sizes = neither-parts _ _ (nexts .0) in
@@ -54,6 +59,21 @@ module _ (limit : ℕ) (a : Arena) where
         next-length = eqb-true _ _ (not-false _ (nexts .1));
         generation-length = eqb-true _ _ (not-false _ (generations .1));
         payload-length = eqb-true _ _ (not-false _ (payloads .1));
+      }
+
+  -- refusals 1, 2 and 3 did not come, whatever is tested after them
+  pub first-three : (rest : ℕ) → cond (misshapen limit a) 1 (cond (ltb (current a) 2) 2 (cond (ltb (capacity a) (linkCount a) || ltb (capacity a) (stackLength a)) 3 rest)) ≡ 0 → Shaped limit a
+  first-three rest e =
+      let one = pass _ _ _ tt e in
+      let two = pass _ _ _ tt (one .1) in
+      let three = neither-parts _ _ (pass _ _ _ tt (two .1) .0) in
+      let sizes = sized (one .0) in
+      record {
+        header = sizes .header;
+        small = sizes .small;
+        next-length = sizes .next-length;
+        generation-length = sizes .generation-length;
+        payload-length = sizes .payload-length;
         generation = ltb-false _ _ (two .0);
         links-within = ltb-false _ _ (three .0);
         within = ltb-false _ _ (three .1);

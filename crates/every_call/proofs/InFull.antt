@@ -11,7 +11,7 @@ use lib.Dec.{eqb, ltb}
 use borrow.Author.Tests.{eq-eqb, ne-eqb, eqb-true}
 use Rattle.definitions.specs.Columns.{at, count, keep, written, settled}
 use Rattle.definitions.specs.Arena.{Arena, arena, capacity, stackLength, linkCount, current, linkSlots, isLink}
-use Rattle.definitions.specs.Check.{verdict, FailsAt, brokenSlot, brokenSide, Freelist, WellFormed, SameRead}
+use Rattle.definitions.specs.Check.{misshapen, verdict, FailsAt, brokenSlot, brokenSide, Freelist, WellFormed, SameRead}
 use Rattle.definitions.specs.Reply.{Reply, reply}
 use Rattle.definitions.specs.Read.{Pointer, pointer, stale}
 use Rattle.definitions.specs.Walk.{Walk, startAt, stateOf, step, walkStart, walkStep, walkFrom}
@@ -30,8 +30,15 @@ use Rattle.statements.specs.DrainsChain.{DrainsChain}
 use Rattle.statements.specs.InsertPlaces.{Makes, AllThere, InsertPlaces}
 use Rattle.statements.specs.BrokenSlot.{LowestBroken, NamesLowest}
 use Rattle.statements.specs.EveryCall.{Unchanged, AnswerWord, OneCommand}
+use Rattle.statements.specs.SmallArenas.{IsSmall, before, entry, tally, lentOn, behind, AllSmall, GivesSmall}
 use Rattle.statements.specs.FrameClock.{LinesPart, CountsDue, ReportsDue, WindowsPart, ChainParted, SameButPayloads, IgnoresPayloads}
 use Rattle.well_formed.proofs.WellFormed.{check-passes-exactly-if-well-formed}
+use Rattle.all_small.specs.SmallArenas.{smallArenas}
+use Rattle.all_small.specs.SmallArena.{smallArena}
+use Rattle.all_small.proofs.SmallArenas.{small-arenas-at, small-arenas}
+use Rattle.all_small.proofs.Determined.{no-other-list}
+use Rattle.all_small.proofs.SmallCall.{small-one-exactly, small-fourteen-exactly, small-done-exactly, small-found-exactly, unfound-changes-nothing, refusal-finds-none, gives-small, every-small-comes, none-comes-twice}
+use Rattle.every_call.proofs.SmallArenas.{small-refusal-by-contract, small-by-contract, calls-after-small}
 use Rattle.well_formed.proofs.ReadsOnly.{verdict-reads-only, broken-reads-only, payloads-are-not-read}
 use Rattle.well_formed.proofs.Verdict.{eleven-fails, verdict-bound}
 use Rattle.well_formed.proofs.Eleven.{eleven-exactly}
@@ -553,3 +560,92 @@ well-formed-after-commands-in-full = well-formed-after-commands
 
 pub answers-are-words-in-full : (top : ℕ) (cs : List Command) (a : Arena) (w : ℕ) → 1 ≤ count w (answersOf top a cs) → AnswerWord w
 answers-are-words-in-full = answers-are-words
+
+-- ---- small arenas
+
+-- the list, for any list of which as much is said
+abbrev HasAll : ℕ → List Arena → Type 0
+HasAll limit arenas =
+    (length arenas ≡ 90)
+    × (tally arenas 0 ≡ 1)
+    × (tally arenas 1 ≡ 3)
+    × (tally arenas 2 ≡ 13)
+    × (tally arenas 3 ≡ 73)
+    × ((i j : ℕ) → i < j → j < 90 → before (entry arenas i) (entry arenas j) ≡ true)
+    × ((i : ℕ) → i < 90 → IsSmall limit (entry arenas i))
+    × ((a : Arena) → IsSmall limit a → (i : ℕ) × (i < 90) × (entry arenas i ≡ a))
+
+has-all : (limit : ℕ) (arenas : List Arena) → AllSmall limit arenas → HasAll limit arenas
+has-all limit arenas w =
+    let lengths : (k : ℕ) → getD (map (tally arenas) (0 ∷ 1 ∷ 2 ∷ 3 ∷ [])) k 0 ≡ getD (1 ∷ 3 ∷ 13 ∷ 73 ∷ []) k 0 = λ k. ap (λ (ns : List ℕ). getD ns k 0) (w .by-length) in (
+      w .size,
+      lengths 0,
+      lengths 1,
+      lengths 2,
+      lengths 3,
+      λ i j l h. w .rising i j l (omega (arith, w .size)),
+      λ i h. w .small i (omega (arith, w .size)),
+      λ a s. let place = w .every a s in (place .0, omega (arith, place .1, w .size), place .2),
+    )
+
+pub small-arenas-at-in-full : (limit : ℕ) → 3 ≤ limit → HasAll limit smallArenas
+small-arenas-at-in-full limit h = has-all limit smallArenas (small-arenas-at limit h)
+
+pub small-arenas-in-full : HasAll 65535 smallArenas
+small-arenas-in-full = has-all 65535 smallArenas small-arenas
+
+pub no-other-list-in-full : (limit : ℕ) → 3 ≤ limit → (arenas : List Arena) → AllSmall limit arenas → arenas ≡ smallArenas
+no-other-list-in-full = no-other-list
+
+module _ (limit : ℕ) (a : Arena) (index : ℕ) where
+  pub small-one-exactly-in-full : (smallArena limit a index .number ≡ 1) ↔ (misshapen limit a ≡ true)
+  small-one-exactly-in-full = small-one-exactly limit a index
+
+  pub small-fourteen-exactly-in-full : misshapen limit a ≡ false → (smallArena limit a index .number ≡ 14) ↔ ((index < 90) × (capacity a < stackLength (entry smallArenas index)))
+  small-fourteen-exactly-in-full = small-fourteen-exactly limit a index
+
+  pub small-done-exactly-in-full : misshapen limit a ≡ false → (smallArena limit a index .number ≡ 0) ↔ ((90 ≤ index) ⊎ ((index < 90) × (stackLength (entry smallArenas index) ≤ capacity a)))
+  small-done-exactly-in-full = small-done-exactly limit a index
+
+  pub small-found-exactly-in-full : misshapen limit a ≡ false → (getD (smallArena limit a index .fields) 0 0 ≡ 1) ↔ ((index < 90) × (stackLength (entry smallArenas index) ≤ capacity a))
+  small-found-exactly-in-full = small-found-exactly limit a index
+
+  pub unfound-changes-nothing-in-full : (getD (smallArena limit a index .fields) 0 0 ≡ 1 → ⊥) → (smallArena limit a index .fields ≡ 0 ∷ 0 ∷ []) × (smallArena limit a index .arena ≡ a)
+  unfound-changes-nothing-in-full = unfound-changes-nothing limit a index
+
+  pub refusal-finds-none-in-full : (smallArena limit a index .number ≡ 0 → ⊥) → (smallArena limit a index .fields ≡ 0 ∷ 0 ∷ []) × (smallArena limit a index .arena ≡ a)
+  refusal-finds-none-in-full = refusal-finds-none limit a index
+
+-- what is given: number 0, found with the stack length; what is lent on is the arena, which is small, and the words behind it are as they were
+abbrev Gives : ℕ → Arena → Arena → Reply → Type 0
+Gives limit e a r =
+    (r .number ≡ 0)
+    × (r .fields ≡ 1 ∷ stackLength e ∷ [])
+    × (lentOn (stackLength e) (r .arena) ≡ e)
+    × IsSmall limit e
+    × (behind (stackLength e) (r .arena) ≡ behind (stackLength e) a)
+
+given : {limit : ℕ} {e a : Arena} {r : Reply} → GivesSmall limit e a r → Gives limit e a r
+given w = (w .number, w .fields, w .lent-on, w .small, w .stays)
+
+pub gives-small-in-full : (limit : ℕ) → 3 ≤ limit → (a : Arena) (index : ℕ) → misshapen limit a ≡ false → index < 90 → stackLength (entry smallArenas index) ≤ capacity a
+    → Gives limit (entry smallArenas index) a (smallArena limit a index)
+gives-small-in-full limit h a index m i room = given (gives-small limit h a index m i room)
+
+pub every-small-comes-in-full : (limit : ℕ) → 3 ≤ limit → (e : Arena) → IsSmall limit e
+    → (index : ℕ) × (index < 90) × ((a : Arena) → misshapen limit a ≡ false → stackLength e ≤ capacity a → Gives limit e a (smallArena limit a index))
+every-small-comes-in-full limit h e s = let place = every-small-comes limit h e s in (place .0, place .1, λ a m room. given (place .2 a m room))
+
+pub none-comes-twice-in-full : (limit : ℕ) → 3 ≤ limit → (e : Arena) (i j : ℕ) (a b : Arena) → misshapen limit a ≡ false → misshapen limit b ≡ false
+    → GivesSmall limit e a (smallArena limit a i) → GivesSmall limit e b (smallArena limit b j) → i ≡ j
+none-comes-twice-in-full = none-comes-twice
+
+module _ (limit : ℕ) (a : Arena) (index : ℕ) (r : Reply) (p : r ≡ smallArena limit a index) where
+  pub small-refusal-by-contract-in-full : (r .number ≡ 0 → ⊥) → (r .fields ≡ 0 ∷ 0 ∷ []) × (r .arena ≡ a)
+  small-refusal-by-contract-in-full = small-refusal-by-contract limit a index r p
+
+  pub small-by-contract-in-full : 3 ≤ limit → getD (r .fields) 0 0 ≡ 1 → (index < 90) × GivesSmall limit (entry smallArenas index) a r
+  small-by-contract-in-full = small-by-contract limit a index r p
+
+  pub calls-after-small-in-full : 3 ≤ limit → getD (r .fields) 0 0 ≡ 1 → (top : ℕ) (ms : List Made) → WellFormed limit (arenaAfter limit top ms (lentOn (getD (r .fields) 1 0) (r .arena)))
+  calls-after-small-in-full = calls-after-small limit a index r p

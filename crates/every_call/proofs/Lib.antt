@@ -8,6 +8,7 @@ pub mod Insertions
 pub mod FrameLines
 pub mod Due
 pub mod IgnoresPayloads
+pub mod SmallArenas
 pub mod ContractDetermines
 pub mod ByContract
 pub mod InFull

@@ -7,3 +7,4 @@ pub mod InsertPlaces
 pub mod BrokenSlot
 pub mod EveryCall
 pub mod FrameClock
+pub mod SmallArenas

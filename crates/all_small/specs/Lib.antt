@@ -1,0 +1,2 @@
+pub mod SmallArenas
+pub mod SmallArena
