@@ -1,5 +1,5 @@
-// Links the archive of each level that is asked for as a feature: a ready one from the folder that CHAIN_ARENA_ARCHIVES names,
-// else one that the repository's script `archives` proves and makes, or finds made.
+// Links each archive that is asked for as a feature: a ready one from the folder that CHAIN_ARENA_ARCHIVES names, else
+// one that the repository's script `archives` proves and makes, or finds made.
 
 use std::env;
 use std::fs::{self, File, OpenOptions};
@@ -10,11 +10,11 @@ use std::path::{Path, PathBuf};
 use std::process::{Command, Stdio, exit};
 use std::time::Instant;
 
-#[expect(dead_code, reason = "the names that a level exports are for the tests")]
+#[expect(dead_code, reason = "what an archive exports is for the tests")]
 #[path = "levels.rs"]
 mod levels;
 
-use levels::{LEVELS, Level};
+use levels::{ARCHIVES, Archive};
 
 /// The environment variable that names a folder with ready archives. Where it is set nothing is proved here.
 const READY: &str = "CHAIN_ARENA_ARCHIVES";
@@ -53,9 +53,9 @@ fn sentence(names: &[String]) -> String {
     }
 }
 
-/// The file of a level's archive.
-fn archive(level: &str) -> String {
-    format!("lib{level}.a")
+/// The file of an archive.
+fn file(name: &str) -> String {
+    format!("lib{name}.a")
 }
 
 /// Where cargo's own messages go, if that is a terminal or a pipe. A build script's output is shown only when it has ended,
@@ -76,14 +76,14 @@ fn say(messages: &mut Option<File>, line: &str) {
     eprintln!("{line}");
 }
 
-/// Has `archives` make the archives of the levels, or find them made, and write them into the folder. What it says of its
-/// progress is said at once; where nobody can be told meanwhile, a warning tells afterwards that something was proved.
-fn prove(root: &Path, levels: &[&str], out: &Path) {
+/// Has `archives` make the named archives, or find them made, and write them into the folder. What it says of its progress is
+/// said at once; where nobody can be told meanwhile, a warning tells afterwards that something was proved.
+fn prove(root: &Path, names: &[&str], out: &Path) {
     let began = Instant::now();
     let spawned = Command::new("bash")
         .arg("archives")
         .arg(out)
-        .args(levels)
+        .args(names)
         .current_dir(root)
         .stdout(Stdio::null())
         .stderr(Stdio::piped())
@@ -122,18 +122,18 @@ fn ready_folder(named: &Path) -> PathBuf {
     called_from.map_or_else(|_| named.to_path_buf(), |folder| folder.join(named))
 }
 
-/// Copies a ready archive of each level into the folder.
-fn copy(ready: &Path, levels: &[&str], out: &Path) {
+/// Copies the named archives, which are ready, into the folder.
+fn copy(ready: &Path, names: &[&str], out: &Path) {
     if !ready.is_dir() {
         stop(&format!("{READY} names {}, and there is no such folder", ready.display()));
     }
-    let held = |level: &&str| ready.join(archive(level)).is_file();
-    let lacks: Vec<&str> = levels.iter().copied().filter(|level| !held(level)).collect();
+    let held = |name: &&str| ready.join(file(name)).is_file();
+    let lacks: Vec<&str> = names.iter().copied().filter(|name| !held(name)).collect();
     if !lacks.is_empty() {
-        let holds: Vec<String> = LEVELS.iter().map(|level| level.name).filter(held).map(archive).collect();
+        let holds: Vec<String> = ARCHIVES.iter().map(|archive| archive.name).filter(held).map(file).collect();
         let holds = if holds.is_empty() { "no archive".to_string() } else { sentence(&holds) };
-        let files: Vec<String> = lacks.iter().map(|level| archive(level)).collect();
-        let features: Vec<String> = lacks.iter().map(|level| level.replace('_', "-")).collect();
+        let files: Vec<String> = lacks.iter().map(|name| file(name)).collect();
+        let features: Vec<String> = lacks.iter().map(|name| name.replace('_', "-")).collect();
         stop(&format!(
             "the folder {}, which {READY} names, lacks {}; it has {holds}\n`bash archives OUT` writes all of them into a folder OUT; without the cargo feature {} the build does not ask for {}",
             ready.display(),
@@ -142,8 +142,8 @@ fn copy(ready: &Path, levels: &[&str], out: &Path) {
             if lacks.len() == 1 { "it" } else { "them" },
         ));
     }
-    for level in levels {
-        let (from, to) = (ready.join(archive(level)), out.join(archive(level)));
+    for name in names {
+        let (from, to) = (ready.join(file(name)), out.join(file(name)));
         println!("cargo::rerun-if-changed={}", from.display());
         if fs::canonicalize(&from).ok() == fs::canonicalize(&to).ok() {
             continue;
@@ -156,9 +156,9 @@ fn copy(ready: &Path, levels: &[&str], out: &Path) {
     }
 }
 
-/// Whether the level is asked for as a feature.
-fn wanted(level: &Level) -> bool {
-    env::var_os(format!("CARGO_FEATURE_{}", level.name.to_uppercase())).is_some()
+/// Whether the archive is asked for as a feature.
+fn wanted(archive: &Archive) -> bool {
+    env::var_os(format!("CARGO_FEATURE_{}", archive.name.to_uppercase())).is_some()
 }
 
 fn main() {
@@ -175,16 +175,17 @@ fn main() {
     }
     println!("cargo::rustc-link-search=native={}", out.display());
     println!("cargo::rustc-env=CHAIN_ARENA_LINKED={}", out.display());
-    let levels: Vec<&str> = LEVELS.iter().filter(|level| wanted(level)).map(|level| level.name).collect();
-    if !levels.is_empty() {
+    let (asked, left): (Vec<&Archive>, Vec<&Archive>) = ARCHIVES.iter().partition(|archive| wanted(archive));
+    let names: Vec<&str> = asked.iter().map(|archive| archive.name).collect();
+    if !names.is_empty() {
         hold_target();
     }
-    for level in LEVELS.iter().filter(|level| !wanted(level)) {
-        let _ = fs::remove_file(out.join(archive(level.name)));
+    for archive in left {
+        let _ = fs::remove_file(out.join(file(archive.name)));
     }
     match named {
-        Some(named) => copy(&ready_folder(&named), &levels, &out),
-        None if levels.is_empty() => {}
+        Some(named) => copy(&ready_folder(&named), &names, &out),
+        None if names.is_empty() => {}
         None if !root.join("archives").is_file() => stop(&format!(
             "this package stands alone, so its archives cannot be proved here: {READY} must name a folder with ready ones"
         )),
@@ -192,11 +193,11 @@ fn main() {
             for read in ["archives", "crates", "crates.txt"] {
                 println!("cargo::rerun-if-changed={}", root.join(read).display());
             }
-            prove(root, &levels, &out);
+            prove(root, &names, &out);
         }
     }
-    for level in levels {
-        println!("cargo::rustc-link-lib=static={level}");
-        println!("cargo::metadata={level}=linked");
+    for name in names {
+        println!("cargo::rustc-link-lib=static={name}");
+        println!("cargo::metadata={name}=linked");
     }
 }

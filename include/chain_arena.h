@@ -24,9 +24,10 @@
  *
  * The numbers (Numbers). A constant CHAIN_ARENA_REFUSED_.. stands below for each refusal, CHAIN_ARENA_DONE for 0 and
  * CHAIN_ARENA_OVERFLOWED for 100.
- *  number  name                  of every call, and from 1 on of every call on an arena:
+ *  number  name                  of every call, and from 1 on of every call on an arena; one more is named below the meaning:
  *       0  DONE                  nothing is wrong: done
  *       1  SHAPE                 two columns differ in length or are longer than 65,535, or the header has not four words
+ *                                  small_arena
  *       2  CURRENT_GENERATION    the current generation is 0 or 1
  *       3  OVER_CAPACITY         the stack length or the link count exceeds the capacity
  *       4  LINK_COUNT            the link count differs from how many links the stack has
@@ -45,7 +46,7 @@
  *                                  connect, break_prev, break_next, exchange_next; in the answers of run
  *      14  SLICE_LENGTH          the slice to be filled is too short, or the where-from column has not the columns'
  *                                length
- *                                  due_events, drain, run, compress_with, compress_canonical
+ *                                  due_events, drain, run, compress_with, compress_canonical, small_arena
  *      15  GENERATION_TOO_LOW    generation 0 or 1 was to be set
  *                                  set_generation
  *      16  COMMAND               the command words are no whole commands, or a code or a kind of insertion is unknown
@@ -243,6 +244,13 @@ typedef struct chain_arena_due_result {
     uint32_t side;
     uint32_t count;
 } chain_arena_due_result;
+
+/* Whether there is a small arena of the index, 1 or 0, and its stack length: how many words of each column are its own. */
+typedef struct chain_arena_small_arena_result {
+    uint32_t number;
+    uint32_t found;
+    uint32_t length;
+} chain_arena_small_arena_result;
 
 /* Level One: liblevel_one.a */
 
@@ -476,6 +484,24 @@ chain_arena_plain_result chain_arena_compress_canonical(
     uint32_t *header, size_t header_len,
     uint32_t reset,
     uint16_t *where_from, size_t where_from_len);
+
+/* Small arenas: libsmall_arenas.a */
+
+/* Writes the small arena of an index, 0 to 89, and answers found 1 and its stack length. The first length words of each column
+ * and the header are the arena's: lend them on, each count being length. Further words of the columns stay. With an index over
+ * 89 found is 0 and nothing is written. It is no call on an arena: it looks at lengths alone, and at no word that was there.
+ * Small are the arenas that pass the check with stack length 0 to 3 and a capacity equal to it, where each link and the header
+ * have generation 2, each link's payload is its slot, and every word that nobody reads is 0. They come by stack length, then
+ * by root, then slot by slot: by generation, prev, next.
+ * 1: two columns differ in length or are longer than 65,535, or the header has not four words; 14: there is such an arena, and
+ * the columns are shorter than its stack length. On a refusal found and length are 0 and nothing is written. (Small arenas) */
+chain_arena_small_arena_result chain_arena_small_arena(
+    uint16_t *prev, size_t prev_len,
+    uint16_t *next, size_t next_len,
+    uint32_t *generation, size_t generation_len,
+    uint32_t *payload, size_t payload_len,
+    uint32_t *header, size_t header_len,
+    uint32_t index);
 
 #ifdef __cplusplus
 }

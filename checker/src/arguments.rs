@@ -33,6 +33,8 @@ pub enum Command {
     /// An arena, and the commands that are applied to it
     Apply(Source, Source),
     Due(Source, When),
+    /// The index of a small arena, as it is given; all of them if none is
+    Small(Option<OsString>),
     Samples,
 }
 
@@ -42,7 +44,7 @@ impl Command {
         match self {
             Self::Check(file) | Self::Compress(file, _) | Self::Due(file, _) => vec![file],
             Self::Compare(a, b) | Self::Apply(a, b) => vec![a, b],
-            Self::Samples => Vec::new(),
+            Self::Small(_) | Self::Samples => Vec::new(),
         }
     }
 }
@@ -143,7 +145,11 @@ impl Given {
         let around = self.value(AROUND).map(slot).transpose()?;
         let is_output = |name: &str| OPTIONS.iter().all(|(other, _)| *other != name);
         let outputs = self.options.into_iter().filter(|(name, _)| is_output(name));
-        let targets = outputs.map(|(option, path)| target(option, path)).collect::<Result<_, _>>()?;
+        let targets: Vec<Target> =
+            outputs.map(|(option, path)| target(option, path)).collect::<Result<_, _>>()?;
+        if let (Command::Small(None), Some(Target { option, .. })) = (&command, targets.first()) {
+            return Err(format!("`{option}` goes with `small INDEX`, not with `small` alone"));
+        }
         Ok(Job { command, around, targets })
     }
 
@@ -157,6 +163,7 @@ impl Given {
             Some("compare") => two("compare", files).map(|[a, b]| Command::Compare(a, b)),
             Some("apply") => two("apply", files).map(|[file, commands]| Command::Apply(file, commands)),
             Some("due") => due(words),
+            Some("small") => small(words),
             _ => Err(format!("unknown command {}", quoted(&name.to_string_lossy()))),
         }
     }
@@ -233,6 +240,15 @@ fn due(words: &[OsString]) -> Result<Command, String> {
     };
     let when = When { p, from: number("FROM", from, u32::MAX)?, to: number("TO", to, u32::MAX)? };
     Ok(Command::Due(source(file), when))
+}
+
+/// The index of a small arena, or none.
+fn small(words: &[OsString]) -> Result<Command, String> {
+    match words {
+        [] => Ok(Command::Small(None)),
+        [index] => Ok(Command::Small(Some(index.clone()))),
+        _ => Err(format!("`small` takes one INDEX or none, but {} are given", words.len())),
+    }
 }
 
 /// The number of a word that has a name, at most so large.
@@ -319,6 +335,10 @@ mod tests {
             Command::Due(file("7"), when(7, 0, 0, 0))
         );
         assert_eq!(job(&["due", "f", "1", "2", "3", "4"]).command.sources(), [&file("f")]);
+        assert_eq!(job(&["small"]).command, Command::Small(None));
+        assert_eq!(job(&["small", "42"]).command, Command::Small(Some("42".into())));
+        assert_eq!(job(&["small", "--", "-1"]).command, Command::Small(Some("-1".into())));
+        assert!(job(&["small", "42"]).command.sources().is_empty());
     }
 
     #[test]
@@ -336,6 +356,7 @@ mod tests {
             job(&["--svg=--=x", "--page", "p"]).targets,
             [target("--svg", "--=x"), target("--page", "p")]
         );
+        assert_eq!(job(&["small", "--svg", "o", "3"]).targets, [target("--svg", "o")]);
     }
 
     #[test]
@@ -412,6 +433,12 @@ mod tests {
                 &["compare", "a", "b", "--around", "1"],
                 "`--around` goes with `check`, `compress` and `apply` only",
             ),
+            (&["small", "1", "2"], "`small` takes one INDEX or none, but 2 are given"),
+            (&["small", "-1"], "unknown option `-1`"),
+            (&["small", "--svg", "o"], "`--svg` goes with `small INDEX`, not with `small` alone"),
+            (&["--page=o", "small"], "`--page` goes with `small INDEX`, not with `small` alone"),
+            (&["small", "1", "--around", "1"], "`--around` goes with `check`, `compress` and `apply` only"),
+            (&["small", "--reset"], "`--reset` goes with `compress` only"),
         ] {
             assert_eq!(asked(words), Err(message.to_string()), "{words:?}");
         }

@@ -19,7 +19,7 @@ pub fn parse(bytes: &[u8]) -> Result<OwnedArena, ParseError> {
 }
 
 /// The text of any arena.
-#[cfg(any(test, feature = "level-two"))]
+#[cfg(any(test, feature = "level-two", feature = "small-arenas"))]
 pub fn text(arena: &OwnedArena) -> String {
     let words: String = arena.header.iter().map(|word| format!(" {word}")).collect();
     let mut text = format!("header{words}\n# slot  prev  next  generation     payload\n");
@@ -34,7 +34,7 @@ pub fn text(arena: &OwnedArena) -> String {
 }
 
 /// A word of a column; a `-` where the column has ended.
-#[cfg(any(test, feature = "level-two"))]
+#[cfg(any(test, feature = "level-two", feature = "small-arenas"))]
 fn entry<T: fmt::Display>(word: Option<&T>) -> String {
     word.map_or("-".to_string(), T::to_string)
 }

@@ -34,6 +34,8 @@ mod random;
 mod refused;
 #[cfg(test)]
 mod robust;
+#[cfg(feature = "small-arenas")]
+mod small;
 mod svg;
 mod wording;
 
@@ -47,6 +49,8 @@ use arguments::{Asked, Command, How, Job};
 use due::due;
 use judged::Judged;
 use panel::Panel;
+#[cfg(feature = "small-arenas")]
+use small::small;
 #[cfg(feature = "level-three")]
 use {compare::compare, compress::compress};
 
@@ -59,6 +63,7 @@ commands:
   apply FILE COMMANDS  applies a list of edits, says what became of each, and prints the arena that is left
   due FILE SLOT GENERATION FROM TO
                        lists the links of a chain that are due from dot FROM of the frame to before dot TO
+  small [INDEX]        lists all small arenas, one on a line, or prints the one of an index as a FILE
   none                 checks and compresses an arena of its own, and explains a broken one
 options:
   --reset              for compress: the links get generation 2, not the next one
@@ -71,7 +76,7 @@ options:
   --                   what follows is no option
 FILE, A, B and COMMANDS: `-` is standard input. docs/FORMAT.md describes both texts.
 status:
-  0                    the arena passes the check; the two hold the same; every command was done; it was told what is due
+  0                    the arena passes the check; the two hold the same; every command was done; what is due or small was told
   1                    it is refused; they do not, or one is refused; a command was refused; the pointer or the window was
   2                    wrong use, a file that cannot be read or written, or a text that is no arena or no commands
 ";
@@ -120,6 +125,12 @@ fn compare(_: &Judged, _: &Judged) -> Result<Shown, String> {
     Err("compare needs Level Three: build with the feature level-three".to_string())
 }
 
+/// The small arenas are not linked.
+#[cfg(not(feature = "small-arenas"))]
+fn small(_: Option<&std::ffi::OsStr>) -> Result<Shown, String> {
+    Err("small needs the small arenas: build with the feature small-arenas".to_string())
+}
+
 /// Checks and compresses the whole arena of its own, and checks the broken one.
 fn samples() -> Result<Shown, String> {
     let whole = Judged::parse("K11".to_string(), WHOLE.as_bytes())?;
@@ -142,6 +153,7 @@ fn done(job: Job) -> Result<Shown, String> {
         Command::Compare(a, b) => compare(&Judged::read(a)?, &Judged::read(b)?)?,
         Command::Apply(file, commands) => apply(Judged::read(file)?, commands, job.around)?,
         Command::Due(file, when) => due(&Judged::read(file)?, *when),
+        Command::Small(index) => small(index.as_deref())?,
         Command::Samples => samples()?,
     };
     for target in &job.targets {
@@ -152,10 +164,15 @@ fn done(job: Job) -> Result<Shown, String> {
     Ok(shown)
 }
 
+/// The message of a wrong use.
+fn misused(message: String) -> String {
+    format!("{message}\n`checker --help` tells how it is called")
+}
+
 /// Does what the arguments ask for.
 fn answer() -> Result<Shown, String> {
     let asked = arguments::parse(env::args_os().skip(1), DRAWINGS.iter().map(|(option, _)| *option));
-    match asked.map_err(|message| format!("{message}\n`checker --help` tells how it is called"))? {
+    match asked.map_err(misused)? {
         Asked::Help => Ok(Shown::text(USAGE)),
         Asked::Version => Ok(Shown::text(VERSION)),
         Asked::Job(job) => done(job),

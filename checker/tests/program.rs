@@ -3,6 +3,8 @@
 #[cfg(feature = "level-two")]
 mod apply;
 mod due;
+#[cfg(feature = "small-arenas")]
+mod small;
 mod xml;
 
 use std::fs::{self, File};
@@ -308,6 +310,16 @@ fn compressing_and_comparing_need_level_three() {
     }
 }
 
+#[cfg(not(feature = "small-arenas"))]
+#[test]
+fn small_arenas_need_their_archive() {
+    for arguments in [&["small"][..], &["small", "42"], &["small", "90"]] {
+        let ran = checker(arguments);
+        let message = "small needs the small arenas: build with the feature small-arenas\n";
+        assert_eq!((ran.stdout.as_str(), ran.stderr.as_str(), ran.status), ("", message, 2));
+    }
+}
+
 #[test]
 fn help_and_version_are_printed() {
     for option in ["--help", "-h"] {
@@ -319,6 +331,7 @@ fn help_and_version_are_printed() {
             "compare A B",
             "apply FILE COMMANDS",
             "due FILE SLOT GENERATION FROM TO",
+            "small [INDEX]",
             "--reset",
             "--order-preserving",
             "--around SLOT",

@@ -22,7 +22,8 @@ pub struct Arena<'a> {
 
 /// A lent arena to edit and to compress. Slot s has index s - 1 in the four columns.
 ///
-/// Its calls are those of Levels Two and Three; [`as_arena`](Self::as_arena) leads to those of Level One.
+/// Its calls are those of Levels Two and Three, and `small_arena`, which writes a small arena; [`as_arena`](Self::as_arena) leads
+/// to those of Level One.
 #[derive(Debug)]
 pub struct ArenaMut<'a> {
     /// Each link's neighbour before it, 0 for none

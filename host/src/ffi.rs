@@ -136,8 +136,17 @@ pub struct DueResult {
     pub count: u32,
 }
 
+/// Whether there is a small arena of the index, 1 or 0, and its stack length: how many words of each column are its own.
+#[repr(C)]
+#[derive(Clone, Copy, Debug, PartialEq, Eq)]
+pub struct SmallArenaResult {
+    pub number: u32,
+    pub found: u32,
+    pub length: u32,
+}
+
 /// Gives each result what its first words stand for, taken by their names: the results of calls on an arena, then those of
-/// calls that take none.
+/// calls that check none.
 macro_rules! done {
     ($($result:ident)*; $($bare:ident)*) => {
         $(impl $result {
@@ -165,7 +174,7 @@ macro_rules! done {
 
 done! {
     PlainResult LinkResult LinkNoGenResult NeighborsResult WalkResult StepResult DrainResult InsertResult DueResult;
-    LineResult LineDotsResult
+    LineResult LineDotsResult SmallArenaResult
 }
 
 // Level One
@@ -360,4 +369,20 @@ unsafe extern "C" {
         header: *mut u32, header_len: usize,
         reset: u32, where_from: *mut u16, where_from_len: usize,
     ) -> PlainResult;
+}
+
+// Small arenas
+#[cfg(feature = "small-arenas")]
+#[rustfmt::skip]
+unsafe extern "C" {
+    /// Writes the small arena of an index into the header and into the first words of each column, as many as its length says;
+    /// these are lent on. Further words stay. Past the last small arena found is 0 and nothing is written. No word is looked at,
+    /// only lengths. 1: two columns differ in length or are too long, or the header has not four words; 14: there is such an
+    /// arena, and the columns are shorter than its length.
+    pub fn chain_arena_small_arena(
+        prev: *mut u16, prev_len: usize, next: *mut u16, next_len: usize,
+        generation: *mut u32, generation_len: usize, payload: *mut u32, payload_len: usize,
+        header: *mut u32, header_len: usize,
+        index: u32,
+    ) -> SmallArenaResult;
 }

@@ -31,10 +31,10 @@
 //!
 //! # Levels
 //!
-//! The features `level-one`, `level-two` and `level-three`, all on by default, each stand alone. A feature builds its
-//! level's archive with the Rattle toolchain and links it, or the ready one in the folder that the environment variable
-//! `CHAIN_ARENA_ARCHIVES` names. The calls of a level whose feature is off are not there. The
-//! feature `alloc` adds `OwnedArena`, whose columns are vectors.
+//! The features `level-one`, `level-two` and `level-three`, all on by default, each stand alone, and so does `small-arenas`, which
+//! is no level: `small_arenas` gives every small arena, to try programs on. A feature builds its archive with the Rattle
+//! toolchain and links it, or the ready one in the folder that the environment variable `CHAIN_ARENA_ARCHIVES` names. The calls
+//! of a feature that is off are not there. The feature `alloc` adds `OwnedArena`, whose columns are vectors.
 //!
 //! The archives hold code for x86-64 Linux; for another target the build stops with a sentence.
 //!
@@ -63,7 +63,7 @@
 extern crate alloc;
 
 /// Makes an exported call on an arena's lent slices, each of which crosses as a pointer and an element count.
-#[cfg(any(feature = "level-one", feature = "level-two", feature = "level-three"))]
+#[cfg(any(feature = "level-one", feature = "level-two", feature = "level-three", feature = "small-arenas"))]
 macro_rules! call {
     ($call:ident($arena:expr, $pointer:ident $(, $argument:expr)* $(,)?)) => {
         // Safety: each pointer and count are those of one slice, which is borrowed until the call has answered; the slices
@@ -107,6 +107,8 @@ mod owned;
 mod refusal;
 #[cfg(feature = "level-two")]
 mod run;
+#[cfg(feature = "small-arenas")]
+mod small;
 #[cfg(feature = "level-one")]
 mod walk;
 
@@ -127,10 +129,18 @@ pub use owned::OwnedArena;
 pub use refusal::{Done, Refusal, RefusalKind, Side};
 #[cfg(feature = "level-two")]
 pub use run::{Answer, Answers, Command, Full, Run};
+#[cfg(feature = "small-arenas")]
+pub use small::{SmallArena, SmallArenas, small_arenas};
 #[cfg(feature = "level-one")]
 pub use walk::{Steps, Walk};
 
 /// The README's examples, which are tested too.
-#[cfg(all(doctest, feature = "level-one", feature = "level-two", feature = "level-three"))]
+#[cfg(all(
+    doctest,
+    feature = "level-one",
+    feature = "level-two",
+    feature = "level-three",
+    feature = "small-arenas"
+))]
 #[doc = include_str!("../README.md")]
 struct Readme;

@@ -6,6 +6,9 @@ use std::os::unix::fs::PermissionsExt;
 use std::path::{Path, PathBuf};
 use std::process::{Command, Output, Stdio};
 
+use crate::is_made_from;
+use crate::sold::ARCHIVES;
+
 /// A stand-in for `rt`: it proves everything, and compiles a crate to an archive that holds one file with the crate's text.
 const RT: &str = r#"#!/usr/bin/env bash
 case $1 in
@@ -26,18 +29,16 @@ struct Stage {
 }
 
 impl Stage {
-    /// Two levels of one and two crates of exports over a crate `below`, and a third of one crate that stands alone.
+    /// Two levels of one and two crates of exports over a crate `below`, a third of one crate that stands alone, and the small arenas of the crate that has
+    /// their name. Other crates have names that begin alike.
     fn new(name: &str) -> Self {
         let folder = Path::new(env!("CARGO_TARGET_TMPDIR")).join(format!("archives_{name}"));
         let _ = fs::remove_dir_all(&folder);
         let stage = Self { folder };
         let script = fs::read_to_string(Path::new(env!("CARGO_MANIFEST_DIR")).join("../archives")).unwrap();
         stage.write("repository/archives", &script);
-        stage.write(
-            "repository/crates.txt",
-            "below:\nlevel_one_a: below\nlevel_two_a: below\nlevel_two_b: below\nlevel_three_a:\n",
-        );
-        for one in ["below", "level_one_a", "level_two_a", "level_two_b", "level_three_a"] {
+        stage.write("repository/crates.txt", &CRATES.map(|(one, on)| format!("{one}:{on}\n")).concat());
+        for (one, _) in CRATES {
             stage.write(&format!("repository/crates/{one}/src/lib.rt"), &format!("{one}\n"));
         }
         stage.write("tools/rt", RT);
@@ -94,7 +95,21 @@ impl Stage {
     }
 }
 
-const EVERY: [&str; 4] = ["level_one_a", "level_three_a", "level_two_a", "level_two_b"];
+/// The crates of the stage, each with what it depends on.
+const CRATES: [(&str, &str); 9] = [
+    ("below", ""),
+    ("small_table", ""),
+    ("level_one_a", " below"),
+    ("level_two_a", " below"),
+    ("level_two_b", " below"),
+    ("level_three_a", ""),
+    ("small_arenas", " small_table"),
+    ("small_arenas2", " small_table"),
+    ("small_printer", " small_arenas"),
+];
+
+/// The crates of the stage that an archive is made from, in the order of the alphabet.
+const EVERY: [&str; 5] = ["level_one_a", "level_three_a", "level_two_a", "level_two_b", "small_arenas"];
 
 #[test]
 fn what_is_up_to_date_is_not_made_again() {
@@ -110,12 +125,49 @@ fn what_is_up_to_date_is_not_made_again() {
 }
 
 #[test]
+fn an_archive_is_made_from_the_crate_of_its_name_and_from_those_that_go_on_with_an_underscore() {
+    let stage = Stage::new("named");
+    assert_eq!(stage.compiled(&["out", "small_arenas"]), ["small_arenas"]);
+    assert_eq!(stage.texts("out/libsmall_arenas.a"), ["small_arenas"]);
+    assert!(!stage.has("out/liblevel_one.a"));
+    for (more, archive) in [("small_arenas_more", "small_arenas"), ("level_three", "level_three")] {
+        let list = stage.folder.join("repository/crates.txt");
+        stage.write(
+            "repository/crates.txt",
+            &(fs::read_to_string(list).unwrap() + &format!("{more}: below\n")),
+        );
+        stage.write(&format!("repository/crates/{more}/src/lib.rt"), &format!("{more}\n"));
+        assert!(stage.compiled(&["out", archive]).contains(&more.to_string()));
+    }
+    assert_eq!(stage.texts("out/libsmall_arenas.a"), ["small_arenas", "small_arenas_more"]);
+    assert_eq!(stage.texts("out/liblevel_three.a"), ["level_three", "level_three_a"]);
+    // the tests go by the same rule
+    for (one, _) in CRATES {
+        let made = ARCHIVES.iter().any(|archive| is_made_from(archive.name, one));
+        assert_eq!(made, EVERY.contains(&one), "{one}");
+    }
+    assert!(is_made_from("small_arenas", "small_arenas_more") && is_made_from("level_three", "level_three"));
+}
+
+#[test]
+fn everything_that_is_sold_is_in_the_script() {
+    let script = fs::read_to_string(Path::new(env!("CARGO_MANIFEST_DIR")).join("../archives")).unwrap();
+    let names: Vec<&str> = ARCHIVES.iter().map(|archive| archive.name).collect();
+    assert!(script.contains(&format!("\nsold=\"{}\"\n", names.join(" "))));
+    let (last, others) = names.split_last().unwrap();
+    let files: Vec<String> = others.iter().map(|name| format!("lib{name}.a")).collect();
+    assert!(script.contains(&format!("     {} and lib{last}.a, or the named ones", files.join(", "))));
+}
+
+#[test]
 fn what_has_changed_is_made_again() {
     let stage = Stage::new("changed");
     stage.compiled(&["out"]);
     stage.write("repository/crates/level_two_b/src/lib.rt", "another\n");
     assert_eq!(stage.compiled(&["out"]), ["level_two_b"]);
     assert_eq!(stage.texts("out/liblevel_two.a"), ["another", "level_two_a"]);
+    stage.write("repository/crates/small_table/src/lib.rt", "another\n");
+    assert_eq!(stage.compiled(&["out"]), ["small_arenas"]);
     stage.write("repository/crates/below/src/lib.rt", "another\n");
     assert_eq!(stage.compiled(&["out"]), ["level_one_a", "level_two_a", "level_two_b"]);
     for part in ["specs", "proofs"] {

@@ -38,7 +38,7 @@ impl Said {
 }
 
 impl Stage {
-    /// A stage for x86-64 Linux and all levels.
+    /// A stage for x86-64 Linux and all features.
     fn new(name: &str) -> Self {
         let folder = Path::new(env!("CARGO_TARGET_TMPDIR")).join(format!("build_{name}"));
         let _ = fs::remove_dir_all(&folder);
@@ -56,6 +56,7 @@ impl Stage {
                 ("CARGO_FEATURE_LEVEL_ONE", "1"),
                 ("CARGO_FEATURE_LEVEL_TWO", "1"),
                 ("CARGO_FEATURE_LEVEL_THREE", "1"),
+                ("CARGO_FEATURE_SMALL_ARENAS", "1"),
             ]
             .map(|(name, value)| (name, value.to_string())),
         );
@@ -79,10 +80,10 @@ impl Stage {
     }
 
     /// Writes a folder of ready archives, each with its own name as its text.
-    fn ready(&self, folder: &str, levels: &[&str]) {
+    fn ready(&self, folder: &str, names: &[&str]) {
         fs::create_dir_all(self.folder.join(folder)).unwrap();
-        for level in levels {
-            self.write(&format!("{folder}/lib{level}.a"), level);
+        for name in names {
+            self.write(&format!("{folder}/lib{name}.a"), name);
         }
     }
 
@@ -117,8 +118,8 @@ impl Stage {
     }
 }
 
-const ALL: [&str; 3] = ["level_one", "level_two", "level_three"];
-const FILES: [&str; 3] = ["liblevel_one.a", "liblevel_three.a", "liblevel_two.a"];
+const ALL: [&str; 4] = ["level_one", "level_two", "level_three", "small_arenas"];
+const FILES: [&str; 4] = ["liblevel_one.a", "liblevel_three.a", "liblevel_two.a", "libsmall_arenas.a"];
 
 #[test]
 fn another_target_is_refused_with_a_sentence() {
@@ -134,7 +135,9 @@ fn another_target_is_refused_with_a_sentence() {
         assert_eq!(stage.run().errors(), [format!("{sentence} {target}")]);
         let none = ["CARGO_FEATURE_LEVEL_ONE", "CARGO_FEATURE_LEVEL_TWO", "CARGO_FEATURE_LEVEL_THREE"];
         let stage = none.into_iter().fold(stage, |stage, feature| stage.with(feature, ""));
-        assert!(stage.run().errors().is_empty(), "nothing is linked without a level");
+        assert_eq!(stage.run().errors(), [format!("{sentence} {target}")], "the small arenas are left");
+        let stage = stage.with("CARGO_FEATURE_SMALL_ARENAS", "");
+        assert!(stage.run().errors().is_empty(), "nothing is linked without a feature");
     }
 }
 
@@ -154,16 +157,17 @@ fn a_relative_folder_is_meant_from_where_cargo_was_called() {
     let stage = stage.with("CHAIN_ARENA_ARCHIVES", &folder);
     let said = stage.run();
     assert_eq!(stage.linked(), FILES);
-    for level in ALL {
-        assert!(said.cargo.contains(&format!("cargo::rustc-link-lib=static={level}\n")));
-        assert!(said.cargo.contains(&format!("cargo::rerun-if-changed={folder}/lib{level}.a\n")));
+    for name in ALL {
+        assert!(said.cargo.contains(&format!("cargo::rustc-link-lib=static={name}\n")));
+        assert!(said.cargo.contains(&format!("cargo::metadata={name}=linked\n")));
+        assert!(said.cargo.contains(&format!("cargo::rerun-if-changed={folder}/lib{name}.a\n")));
     }
     assert!(said.cargo.contains("cargo::rerun-if-env-changed=CHAIN_ARENA_ARCHIVES\n"));
     assert!(!said.cargo.contains("PWD"), "a folder from the root on is the same from everywhere");
 }
 
 #[test]
-fn ready_archives_are_copied_again_and_those_of_other_levels_go() {
+fn ready_archives_are_copied_again_and_those_of_other_features_go() {
     let stage = Stage::new("again").with("CHAIN_ARENA_ARCHIVES", "ready");
     stage.ready("caller/ready", &ALL);
     for archive in FILES.map(|file| stage.folder.join("caller/ready").join(file)) {
@@ -175,6 +179,9 @@ fn ready_archives_are_copied_again_and_those_of_other_levels_go() {
         assert!(stage.run().errors().is_empty());
         assert_eq!(stage.linked(), FILES);
     }
+    let stage = stage.with("CARGO_FEATURE_SMALL_ARENAS", "");
+    assert!(stage.run().errors().is_empty());
+    assert_eq!(stage.linked(), FILES[..3]);
     let stage = stage.with("CARGO_FEATURE_LEVEL_THREE", "");
     assert!(stage.run().errors().is_empty());
     assert_eq!(stage.linked(), ["liblevel_one.a", "liblevel_two.a"]);
@@ -195,12 +202,14 @@ fn what_a_folder_lacks_is_said() {
         stage.run().errors(),
         [
             format!(
-                "the folder {folder}, which CHAIN_ARENA_ARCHIVES names, lacks liblevel_two.a and liblevel_three.a; it has liblevel_one.a"
+                "the folder {folder}, which CHAIN_ARENA_ARCHIVES names, lacks liblevel_two.a, liblevel_three.a and libsmall_arenas.a; it has liblevel_one.a"
             ),
-            "`bash archives OUT` writes all of them into a folder OUT; without the cargo feature level-two and level-three the build does not ask for them".to_string(),
+            "`bash archives OUT` writes all of them into a folder OUT; without the cargo feature level-two, level-three and small-arenas the build does not ask for them".to_string(),
         ]
     );
     let stage = stage.with("CARGO_FEATURE_LEVEL_TWO", "").with("CARGO_FEATURE_LEVEL_THREE", "");
+    assert!(stage.run().errors()[0].ends_with("lacks libsmall_arenas.a; it has liblevel_one.a"));
+    let stage = stage.with("CARGO_FEATURE_SMALL_ARENAS", "");
     assert!(stage.run().errors().is_empty());
     assert_eq!(stage.linked(), ["liblevel_one.a"]);
     let stage = stage.with("CHAIN_ARENA_ARCHIVES", "nowhere");
@@ -219,17 +228,19 @@ fn a_package_without_its_repository_asks_for_ready_archives() {
 }
 
 #[test]
-fn progress_is_told_at_once_and_levels_are_named() {
+fn progress_is_told_at_once_and_archives_are_named() {
     let stage = Stage::new("progress").with("CARGO_FEATURE_LEVEL_TWO", "");
     stage.write(
         "repository/archives",
-        "echo 'archives: first is proved, 1 of 2' >&2\necho noise >&2\necho \"archives: $2 $3 in $1\" >&2\n",
+        "echo 'archives: first is proved, 1 of 2' >&2\necho noise >&2\necho \"archives: $2 $3 $4 in $1\" >&2\n",
     );
     let said = stage.run();
     let out = stage.folder.join("out").display().to_string();
     assert_eq!(
         said.seen,
-        format!("archives: first is proved, 1 of 2 (0 s)\narchives: level_one level_three in {out} (0 s)\n")
+        format!(
+            "archives: first is proved, 1 of 2 (0 s)\narchives: level_one level_three small_arenas in {out} (0 s)\n"
+        )
     );
     assert!(said.errors().is_empty() && !said.cargo.contains("cargo::warning"));
     assert!(!said.cargo.contains("level_two"));

@@ -1,5 +1,6 @@
-/* Makes every call of the levels that are asked for, on an arena that passes the check and on two that rule 11 refuses, one for each side, and prints
- * every word that it answers and leaves. A call without an arena is made with three words, the last of which it refuses.
+/* Makes every call of what is asked for, on an arena that passes the check and on two that rule 11 refuses, one for each side, and prints every word that it
+ * answers and leaves. A call without an arena is made with three words, the last of which it refuses. A call that writes an arena is made where it finds one,
+ * where it finds none, with a column that is shorter than the others, and with columns that are too short.
  *
  * With the words CALL KIND I J it makes that call alone, with its arguments I and J of a kind exchanged: as if the archive had these two parameters the
  * other way round. The kinds: 0 slices of slots, 1 slices of words, 2 slots, 3 words. It ends with status 2 if the call has no such arguments. */
@@ -105,8 +106,15 @@ static void compress_with(arguments *a) { PLAIN(chain_arena_compress_with(ARENA,
 static void compress_canonical(arguments *a) { PLAIN(chain_arena_compress_canonical(ARENA, a->word[0], SLOTS(2))); }
 #endif
 
+#ifdef SMALL_ARENAS
+static void small_arena(arguments *a) {
+    chain_arena_small_arena_result r = chain_arena_small_arena(ARENA, a->word[0]);
+    FIELD(r, number); FIELD(r, found); FIELD(r, length);
+}
+#endif
+
 /* A call: its name, how many arguments of each kind it has, the slots and words among them, and the words of the first slice that it is lent beside the
- * arena. A call without an arena has one argument, which is each of the first three words in turn. */
+ * arena. A call without an arena, and one that writes an arena, has one word, which is each of those that are given, in turn. */
 typedef struct {
     const char *name;
     void (*make)(arguments *);
@@ -147,7 +155,16 @@ static const call calls[] = {
     {"compress_with", compress_with, {2, 4, 0, 1}, {0}, {1}, 16, {0}},
     {"compress_canonical", compress_canonical, {3, 3, 0, 1}, {0}, {1}, 0, {0}},
 #endif
+#ifdef SMALL_ARENAS
+    {"small_arena", small_arena, {2, 3, 0, 1}, {0}, {75, 90, 75, 75}, 0, {0}},
+#endif
 };
+
+/* Whether a call takes no arena. */
+static int without_arena(const call *c) { return c->count[0] == 0; }
+
+/* Whether a call writes an arena into what it is lent, and looks at the lengths alone. */
+static int writes_arena(const call *c) { return strcmp(c->name, "small_arena") == 0; }
 
 #define EXCHANGE(array, i, j) do { memcpy(kept, &(array)[i], sizeof (array)[i]); (array)[i] = (array)[j]; memcpy(&(array)[j], kept, sizeof (array)[j]); } while (0)
 
@@ -160,13 +177,14 @@ static void exchange(arguments *a, int kind, int i, int j) {
     if (kind == 3) EXCHANGE(a->word, i, j);
 }
 
-/* Makes the call with two arguments exchanged (the same one twice: with none), on the chain 1 -> 2 -> 4, the lone link 5 and the free slot 3; or, with a
- * side, where rule 11 fails. For a prev, both neighbours of slot 5 are slot 1, which has other ones. For a next, the next of slot 4 is slot 5 besides,
- * which is the lower fault. */
-static void make(const call *c, uint32_t side, int kind, int i, int j) {
+/* Makes the call with two arguments exchanged (the same one twice: with none), in the first turn on the chain 1 -> 2 -> 4, the lone link 5 and the free slot
+ * 3, then where rule 11 fails, and the turn is the side. For a prev, both neighbours of slot 5 are slot 1, which has other ones. For a next, the next of slot
+ * 4 is slot 5 besides, which is the lower fault. A call that writes an arena is lent the same words in every turn, in the third with a payload column that
+ * is one shorter, and in the fourth two words of each column. */
+static void make(const call *c, uint32_t turn, int kind, int i, int j) {
     uint16_t prev[6] = {0, 1, 99, 2, 0, 99}, next[6] = {2, 4, 3, 0, 0, 99}, where_from[6] = {77, 77, 77, 77, 77, 77};
     uint32_t generation[6] = {5, 6, 0, 7, 9, 99}, payload[6] = {10, 20, 99, 40, 50, 99}, header[4] = {5, 4, 3, 11};
-    uint32_t first[18], answers[3] = {88, 88, 88};
+    uint32_t first[18], answers[3] = {88, 88, 88}, side = writes_arena(c) ? 0 : turn;
     memcpy(first, c->first, sizeof first);
     if (side != 0) prev[4] = next[4] = 1;
     if (side == CHAIN_ARENA_SIDE_NEXT) next[3] = 5;
@@ -174,12 +192,14 @@ static void make(const call *c, uint32_t side, int kind, int i, int j) {
                    {{generation, 6}, {payload, 6}, {header, 4}, {first, c->lent}, {answers, 3}},
                    {c->slot[0], c->slot[1]},
                    {c->word[0], c->word[1], c->word[2], c->word[3]}};
-    if (c->count[0] == 0) a.word[0] = c->word[side];
-    exchange(&a, kind, i, j);
+    arguments lent = a;
+    if (without_arena(c) || writes_arena(c)) lent.word[0] = c->word[turn];
+    if (writes_arena(c) && turn == 2) lent.slice[1].len = 5;
+    if (writes_arena(c) && turn == 3) lent.column[0].len = lent.column[1].len = lent.slice[0].len = lent.slice[1].len = 2;
+    exchange(&lent, kind, i, j);
     printf("%s", c->name);
-    c->make(&a);
+    c->make(&lent);
     printf("\n");
-    exchange(&a, kind, i, j);
     for (int k = 0; k < c->count[0]; k++) {
         for (size_t n = 0; n < a.column[k].len; n++) printf(" %u", a.column[k].at[n]);
         printf(k + 1 < c->count[0] ? " |" : "\n");
@@ -198,9 +218,7 @@ int main(int argc, char **argv) {
             kind = atoi(argv[2]), i = atoi(argv[3]), j = atoi(argv[4]);
             if (kind > 3 || i >= calls[k].count[kind] || j >= calls[k].count[kind]) return 2;
         }
-        make(&calls[k], 0, kind, i, j);
-        make(&calls[k], CHAIN_ARENA_SIDE_PREV, kind, i, j);
-        make(&calls[k], CHAIN_ARENA_SIDE_NEXT, kind, i, j);
+        for (uint32_t turn = 0; turn < (writes_arena(&calls[k]) ? 4u : 3u); turn++) make(&calls[k], turn, kind, i, j);
     }
     return 0;
 }

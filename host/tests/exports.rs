@@ -6,27 +6,27 @@ use std::fs;
 use std::path::{Path, PathBuf};
 use std::process::Command;
 
-use crate::sold::{LEVELS, Level};
+use crate::sold::{ARCHIVES, Archive};
 
 /// What a compiler may call to copy, fill and compare memory.
 const COPYING: [&str; 5] = ["bcmp", "memcmp", "memcpy", "memmove", "memset"];
 
-/// A level's archive where it was linked from.
-fn archive(level: &Level) -> PathBuf {
-    Path::new(env!("CHAIN_ARENA_LINKED")).join(format!("lib{}.a", level.name))
+/// An archive where it was linked from.
+fn file(archive: &Archive) -> PathBuf {
+    Path::new(env!("CHAIN_ARENA_LINKED")).join(format!("lib{}.a", archive.name))
 }
 
-/// The levels that were linked.
-fn linked() -> impl Iterator<Item = &'static Level> {
-    LEVELS.iter().filter(|level| archive(level).exists())
+/// The archives that were linked.
+fn linked() -> impl Iterator<Item = &'static Archive> {
+    ARCHIVES.iter().filter(|archive| file(archive).exists())
 }
 
 /// A linked archive's global names: those that it has, or those that it wants.
-fn names(level: &Level, which: &str) -> BTreeSet<String> {
-    let archive = archive(level);
-    let output = Command::new("nm").args(["-g", "-P", which]).arg(&archive).output();
+fn names(archive: &Archive, which: &str) -> BTreeSet<String> {
+    let file = file(archive);
+    let output = Command::new("nm").args(["-g", "-P", which]).arg(&file).output();
     let output = output.expect("nm, which stands beside the linker");
-    assert!(output.status.success(), "nm could not read {}", archive.display());
+    assert!(output.status.success(), "nm could not read {}", file.display());
     let text = String::from_utf8_lossy(&output.stdout).into_owned();
     text.lines().filter(|line| !line.ends_with(':')).filter_map(first_word).collect()
 }
@@ -37,25 +37,30 @@ fn first_word(line: &str) -> Option<String> {
 }
 
 #[test]
-fn the_levels_that_are_asked_for_are_linked() {
-    let asked = [cfg!(feature = "level-one"), cfg!(feature = "level-two"), cfg!(feature = "level-three")];
-    assert_eq!(LEVELS.iter().map(|level| archive(level).exists()).collect::<Vec<_>>(), asked);
+fn the_archives_that_are_asked_for_are_linked() {
+    let asked = [
+        cfg!(feature = "level-one"),
+        cfg!(feature = "level-two"),
+        cfg!(feature = "level-three"),
+        cfg!(feature = "small-arenas"),
+    ];
+    assert_eq!(ARCHIVES.iter().map(|archive| file(archive).exists()).collect::<Vec<_>>(), asked);
 }
 
 #[test]
 fn each_archive_exports_the_names_of_the_list() {
-    for level in linked() {
-        let listed: BTreeSet<String> = level.exports.iter().map(|name| name.to_string()).collect();
-        assert_eq!(names(level, "--defined-only"), listed, "the archive of {}", level.name);
+    for archive in linked() {
+        let listed: BTreeSet<String> = archive.exports.iter().map(|name| name.to_string()).collect();
+        assert_eq!(names(archive, "--defined-only"), listed, "the archive {}", archive.name);
     }
 }
 
 #[test]
 fn no_archive_needs_memory_or_anything_else_from_outside() {
-    for level in linked() {
-        let wanted = names(level, "--undefined-only");
+    for archive in linked() {
+        let wanted = names(archive, "--undefined-only");
         let outside: Vec<&String> = wanted.iter().filter(|name| !COPYING.contains(&name.as_str())).collect();
-        assert!(outside.is_empty(), "the archive of {} wants {outside:?}", level.name);
+        assert!(outside.is_empty(), "the archive {} wants {outside:?}", archive.name);
     }
 }
 
@@ -65,7 +70,7 @@ fn the_header_declares_the_names_of_the_list() {
     let text = fs::read_to_string(header).unwrap();
     let declared: Vec<&str> =
         text.lines().filter_map(|line| line.strip_suffix('(')?.split(' ').nth(1)).collect();
-    let listed: Vec<&str> = LEVELS.iter().flat_map(|level| level.exports).copied().collect();
+    let listed: Vec<&str> = ARCHIVES.iter().flat_map(|archive| archive.exports).copied().collect();
     assert_eq!(declared, listed);
 }
 
@@ -80,7 +85,7 @@ fn wrapper() -> String {
 #[test]
 fn the_wrapper_calls_every_export() {
     let wrapper = wrapper();
-    for call in LEVELS.iter().flat_map(|level| level.exports) {
+    for call in ARCHIVES.iter().flat_map(|archive| archive.exports) {
         assert!(wrapper.contains(&format!("{call}(")), "{call}");
     }
 }
@@ -108,5 +113,26 @@ fn what_a_dot_and_a_line_answer_comes_from_the_proved_calls() {
         ("fn try_from(line: u32)", "line_dots(line).done()"),
     ] {
         assert!(body(&wrapper, function).contains(call), "{function}");
+    }
+}
+
+#[test]
+fn the_words_and_the_number_of_small_arenas_come_from_the_proved_call() {
+    let wrapper = wrapper();
+    for (function, call) in [
+        (
+            "pub fn small_arena(&mut self, index: u32)",
+            "call!(chain_arena_small_arena(self, as_mut_ptr, index))",
+        ),
+        ("pub fn new(index: u32) -> Option<Self>", "length: LONGEST,"),
+        ("pub fn small_arenas() -> SmallArenas", ".find(|&index| SmallArena::new(index).is_none())"),
+    ] {
+        assert!(body(&wrapper, function).contains(call), "{function}");
+    }
+    let source = fs::read_to_string(Path::new(env!("CARGO_MANIFEST_DIR")).join("src/small.rs")).unwrap();
+    let code: String = source.lines().filter(|line| !line.trim_start().starts_with("//")).collect();
+    assert!(code.contains("small.arena_mut().small_arena(index)"));
+    for count in ["89", "90"] {
+        assert!(!code.contains(count), "the call alone tells how many there are");
     }
 }

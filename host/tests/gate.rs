@@ -83,9 +83,9 @@ impl Stage {
 
 /// The steps in their order, each with whether it links the archives that the gate made.
 fn all_steps() -> Vec<(String, bool)> {
-    let alone = |levels: &str| {
+    let alone = |feature: &str| {
         let options = format!(
-            "-p chain_arena --profile quick --no-default-features --features {levels} --offline --quiet"
+            "-p chain_arena --profile quick --no-default-features --features {feature} --offline --quiet"
         );
         let tests = "test --test levels";
         [tests, "test --doc", "doc --no-deps"].map(|what| format!("cargo {what} {options}"))
@@ -95,7 +95,7 @@ fn all_steps() -> Vec<(String, bool)> {
     let with_all = "cargo test --workspace --offline --quiet".to_string();
     let linking = [with_all]
         .into_iter()
-        .chain(["", "level-one", "level-two", "level-three"].into_iter().flat_map(alone));
+        .chain(["", "level-one", "level-two", "level-three", "small-arenas"].into_iter().flat_map(alone));
     let last = [
         ("cargo test -p checker --profile quick --no-default-features --offline --quiet --test program".to_string(), true),
         ("cargo test -p checker --profile quick --no-default-features --features level-two --offline --quiet --test program".to_string(), true),

@@ -5,14 +5,21 @@ use std::path::{Path, PathBuf};
 use std::process::{Command, Output};
 use std::sync::LazyLock;
 
-/// Each level: whether it is linked, the options that a C program takes for it, and what every_call.c prints of it.
-const LEVELS: [(bool, [&str; 2], &str); 3] = [
+use crate::sold;
+
+/// Each archive: whether it is linked, the options that a C program takes for it, and what every_call.c prints of it.
+const ARCHIVES: [(bool, [&str; 2], &str); 4] = [
     (cfg!(feature = "level-one"), ["-DLEVEL_ONE", "-llevel_one"], include_str!("every_call/level_one.txt")),
     (cfg!(feature = "level-two"), ["-DLEVEL_TWO", "-llevel_two"], include_str!("every_call/level_two.txt")),
     (
         cfg!(feature = "level-three"),
         ["-DLEVEL_THREE", "-llevel_three"],
         include_str!("every_call/level_three.txt"),
+    ),
+    (
+        cfg!(feature = "small-arenas"),
+        ["-DSMALL_ARENAS", "-lsmall_arenas"],
+        include_str!("every_call/small_arenas.txt"),
     ),
 ];
 
@@ -28,7 +35,7 @@ fn package() -> PathBuf {
     PathBuf::from(env!("CARGO_MANIFEST_DIR"))
 }
 
-/// Compiles a C program with the levels that are linked, warnings being errors, and answers where it is.
+/// Compiles a C program with the archives that are linked, warnings being errors, and answers where it is.
 fn compiled(source: &Path, name: &str) -> PathBuf {
     let program = Path::new(env!("CARGO_TARGET_TMPDIR")).join(name);
     let mut command = Command::new("cc");
@@ -36,7 +43,7 @@ fn compiled(source: &Path, name: &str) -> PathBuf {
         .args(["-std=c99", "-Wall", "-Wextra", "-Werror", "-pedantic", "-I"])
         .arg(package().join("../include"));
     command.arg(source).arg("-o").arg(&program).arg("-L").arg(env!("CHAIN_ARENA_LINKED"));
-    for (_, options, _) in LEVELS.iter().filter(|(linked, ..)| *linked) {
+    for (_, options, _) in ARCHIVES.iter().filter(|(linked, ..)| *linked) {
         command.args(options);
     }
     assert!(command.status().expect("the C compiler, cc").success(), "{} was not compiled", source.display());
@@ -62,9 +69,14 @@ fn calls() -> Vec<(String, String)> {
     calls
 }
 
-/// Whether a call takes an arena.
-fn takes_arena(name: &str) -> bool {
-    !crate::sold::WITHOUT_ARENA.contains(&&*format!("chain_arena_{name}"))
+/// Whether a call is one on an arena.
+fn is_on_arena(name: &str) -> bool {
+    sold::is_on_arena(&format!("chain_arena_{name}"))
+}
+
+/// The calls of a list, each with its lines.
+fn listed(exports: &[&str]) -> impl Iterator<Item = (String, String)> {
+    calls().into_iter().filter(|(name, _)| exports.contains(&&*format!("chain_arena_{name}")))
 }
 
 /// The fields of each reply among a call's lines: name and value.
@@ -76,11 +88,11 @@ fn replies(lines: &str) -> Vec<Vec<(&str, &str)>> {
 
 #[test]
 fn a_c_program_makes_every_call() {
-    let linked = LEVELS.iter().filter(|(linked, ..)| *linked);
+    let linked = ARCHIVES.iter().filter(|(linked, ..)| *linked);
     let expected: String = linked.map(|(_, _, printed)| *printed).collect();
     assert_eq!(calls().into_iter().map(|(_, lines)| lines).collect::<String>(), expected);
-    let linked = crate::sold::LEVELS.iter().zip(&LEVELS).filter(|(_, (linked, ..))| *linked);
-    let exports: Vec<&str> = linked.flat_map(|(level, _)| level.exports).copied().collect();
+    let linked = sold::ARCHIVES.iter().zip(&ARCHIVES).filter(|(_, (linked, ..))| *linked);
+    let exports: Vec<&str> = linked.flat_map(|(archive, _)| archive.exports).copied().collect();
     assert_eq!(calls().iter().map(|(name, _)| format!("chain_arena_{name}")).collect::<Vec<_>>(), exports);
 }
 
@@ -98,7 +110,7 @@ fn any_two_arguments_of_one_type_exchanged_are_seen() {
                 }
             }
         }
-        let least = if takes_arena(&name) { 4 } else { 0 };
+        let least = if lines.contains(" | ") { 4 } else { 0 };
         assert!(seen >= least, "{name}: prev and next, and any two of generation, payload and header");
     }
 }
@@ -108,7 +120,7 @@ fn any_two_fields_exchanged_are_seen() {
     for (name, lines) in calls() {
         let replies = replies(&lines);
         let fields: Vec<&str> = replies[0].iter().map(|(field, _)| *field).collect();
-        let first: &[&str] = if takes_arena(&name) { &["number", "broken", "side"] } else { &["number"] };
+        let first: &[&str] = if is_on_arena(&name) { &["number", "broken", "side"] } else { &["number"] };
         let shared = fields.iter().filter(|field| ["number", "broken", "side"].contains(*field));
         assert!(fields.starts_with(first) && shared.count() == first.len(), "{name}: {fields:?}");
         for (i, j) in (0..fields.len()).flat_map(|j| (0..j).map(move |i| (i, j))) {
@@ -126,7 +138,7 @@ fn any_two_fields_exchanged_are_seen() {
 
 #[test]
 fn every_call_names_the_lowest_slot_and_its_side() {
-    for (name, lines) in calls().into_iter().filter(|(name, _)| takes_arena(name)) {
+    for (name, lines) in calls().into_iter().filter(|(name, _)| is_on_arena(name)) {
         let first: Vec<[&str; 3]> =
             replies(&lines).iter().map(|reply| [0, 1, 2].map(|k| reply[k].1)).collect();
         assert_eq!(first, [["0", "0", "0"], ["11", "5", "1"], ["11", "4", "2"]], "{name}");
@@ -135,7 +147,7 @@ fn every_call_names_the_lowest_slot_and_its_side() {
 
 #[test]
 fn a_call_without_an_arena_refuses_the_last_of_its_words_with_19() {
-    for (name, lines) in calls().into_iter().filter(|(name, _)| !takes_arena(name)) {
+    for (name, lines) in listed(sold::WITHOUT_ARENA) {
         let numbers: Vec<&str> = replies(&lines).iter().map(|reply| reply[0].1).collect();
         assert_eq!(numbers, ["0", "0", "19"], "{name}");
         let refused = replies(&lines)[2][1..].to_vec();
@@ -143,11 +155,31 @@ fn a_call_without_an_arena_refuses_the_last_of_its_words_with_19() {
     }
 }
 
-/// What the README's examples for C print, in their order.
-#[cfg(all(feature = "level-one", feature = "level-two", feature = "level-three"))]
-const PRINTED: [&str; 2] = ["5 0: 1 5 3 4 2\n", "line 2: 682 to 1022\n2 due: slots 3 1\n"];
+#[test]
+fn a_call_that_writes_an_arena_refuses_lengths_with_1_and_14_and_writes_only_where_it_finds_one() {
+    for (name, lines) in listed(sold::WRITES_ARENA) {
+        let found: Vec<Vec<&str>> =
+            replies(&lines).iter().map(|reply| reply.iter().map(|(_, word)| *word).collect()).collect();
+        assert_eq!(found, [["0", "1", "3"], ["0", "0", "0"], ["1", "0", "0"], ["14", "0", "0"]], "{name}");
+        let left: Vec<&str> = lines.lines().filter(|line| line.starts_with(' ')).collect();
+        let turns: Vec<&[&str]> = left.chunks(2).collect();
+        let words = [" 0 1 99 2 0 99 | 2 4 3 0 0 99", " 5 6 0 7 9 99 | 10 20 99 40 50 99 | 5 4 3 11"];
+        assert_eq!(turns[1..], [&words[..]; 3], "{name}");
+        // the first three words of each column are the arena's, and the others stay
+        let further = |lines: &[&str]| -> Vec<String> {
+            let columns = lines.iter().flat_map(|line| line.split('|')).take(4);
+            columns.flat_map(|words| words.split_whitespace().skip(3)).map(str::to_string).collect()
+        };
+        assert_eq!(further(turns[0]), further(&words), "{name}");
+    }
+}
 
-#[cfg(all(feature = "level-one", feature = "level-two", feature = "level-three"))]
+/// What the README's examples for C print, in their order.
+#[cfg(all(feature = "level-one", feature = "level-two", feature = "level-three", feature = "small-arenas"))]
+const PRINTED: [&str; 3] =
+    ["5 0: 1 5 3 4 2\n", "line 2: 682 to 1022\n2 due: slots 3 1\n", "90 small arenas pass the check\n"];
+
+#[cfg(all(feature = "level-one", feature = "level-two", feature = "level-three", feature = "small-arenas"))]
 #[test]
 fn the_examples_of_the_readme_run() {
     let readme = std::fs::read_to_string(package().join("../README.md")).unwrap();

@@ -3,14 +3,16 @@
 //! type exchanged in the Rattle source are found.
 //!
 //! What each export promises follows from its signature, so that is held too: `Answered` of its own call with its own arguments, of the arena at entry and
-//! at exit, of every field and of what is lent; without an arena, that its number and every field are what is defined of its own arguments; and nothing is
-//! asked of the caller. A weaker promise with a proof that fits it would pass the prover.
+//! at exit, of every field and of what is lent; without an arena, that its number and every field are what is defined of its own arguments; where it writes an
+//! arena, that these and the arena at exit are what is defined of the arena at entry and of its own arguments; and nothing is asked of the caller. A weaker
+//! promise with a proof that fits it would pass the prover.
 
 use std::collections::BTreeSet;
 use std::fs;
 use std::path::{Path, PathBuf};
 
-use crate::sold::{LEVELS, Level, WITHOUT_ARENA};
+use crate::is_made_from;
+use crate::sold::{ARCHIVES, Archive, WITHOUT_ARENA, WRITES_ARENA, is_on_arena};
 
 /// A parameter or a field: its name, and its type as Rust has it.
 type Place = (String, String);
@@ -30,12 +32,13 @@ fn read(name: &str) -> String {
     fs::read_to_string(root().join(name)).unwrap_or_else(|error| panic!("{name}: {error}"))
 }
 
-/// The Rattle source of the crates whose names begin with these words, without comments. Each is one file, so that nothing is declared where nobody looks.
-fn sources(words: &str) -> String {
+/// The Rattle source of the crates of this name and of those whose names go on with `_`, without comments. Each is one file, so that nothing is declared
+/// where nobody looks.
+fn sources(of: &str) -> String {
     let list = read("crates.txt");
     let crates = list.lines().filter_map(|line| line.split_once(':')).map(|(name, _)| name);
     let mut text = String::new();
-    for name in crates.filter(|name| name.starts_with(words)) {
+    for name in crates.filter(|name| is_made_from(of, name)) {
         let files = std::fs::read_dir(root().join(format!("crates/{name}/src"))).unwrap().count();
         let source = read(&format!("crates/{name}/src/lib.rt"));
         assert!(files == 1 && plain(&source), "{name} has more than one file of plain source");
@@ -68,14 +71,14 @@ fn uncommented(source: &str) -> String {
         .collect()
 }
 
-/// The Rattle source of what a level exports.
-fn exporting(level: &Level) -> String {
-    sources(&format!("{}_", level.name))
+/// The Rattle source of what an archive exports.
+fn exporting(archive: &Archive) -> String {
+    sources(archive.name)
 }
 
 /// The Rattle source of what is exported, and of the results that exports share.
 fn rattle() -> String {
-    LEVELS.iter().map(exporting).collect::<String>() + &sources("answers")
+    ARCHIVES.iter().map(exporting).collect::<String>() + &sources("answers")
 }
 
 /// The text between two marks, the first of which stands behind a start.
@@ -166,7 +169,7 @@ fn of_c(text: &str, call: &str) -> Declared {
 
 /// Every call.
 fn calls() -> impl Iterator<Item = &'static str> {
-    LEVELS.iter().flat_map(|level| level.exports).copied()
+    ARCHIVES.iter().flat_map(|archive| archive.exports).copied()
 }
 
 /// The text with two items of the list behind a start exchanged.
@@ -222,25 +225,52 @@ fn words(text: &str, of: &str) -> Vec<String> {
 
 /// The contract that an export's signature asks for.
 fn promised(text: &str, call: &str) -> String {
-    match WITHOUT_ARENA.contains(&call) {
-        true => promised_without_arena(text, call),
-        false => promised_of_arena(text, call),
+    if WITHOUT_ARENA.contains(&call) {
+        promised_without_arena(text, call)
+    } else if WRITES_ARENA.contains(&call) {
+        promised_of_written(text, call)
+    } else {
+        promised_of_arena(text, call)
     }
+}
+
+/// The arguments of a definition that takes words alone.
+fn arguments(call: &str, parameters: &[Place]) -> String {
+    let marked = |(name, of): &Place| {
+        assert_eq!(of, "u32", "{call}: {name}");
+        marked(name)
+    };
+    parameters.iter().map(marked).collect::<Vec<_>>().join(" ")
+}
+
+/// The words of a result that begins with the number alone, those behind it.
+fn further(text: &str, call: &str) -> String {
+    let mut words = words(text, result(text, call));
+    assert_eq!(words.remove(0), "r .number", "{call}");
+    listed(words)
 }
 
 /// The contract of an export that takes words and no arena: its number and its further fields are what is defined of these words.
 fn promised_without_arena(text: &str, call: &str) -> String {
-    let arguments: Vec<String> = parameters(text, call)
-        .iter()
-        .map(|(name, of)| {
-            assert_eq!(of, "u32", "{call}: {name}");
-            marked(name)
-        })
-        .collect();
-    let mut words = words(text, result(text, call));
-    assert_eq!(words.remove(0), "r .number", "{call}");
-    let defined = [vec![definition_of(call)], arguments].concat().join(" ");
-    format!("ensures {{ λ r. ⌜ told (r .number) {} ≡ {defined} ⌝ }}", listed(words))
+    let (defined, arguments) = (definition_of(call), arguments(call, &parameters(text, call)));
+    format!("ensures {{ λ r. ⌜ told (r .number) {} ≡ {defined} {arguments} ⌝ }}", further(text, call))
+}
+
+/// The names of the five slices that an arena is lent as, with which the parameters begin.
+const COLUMNS: [&str; 5] = ["prev", "next", "generation", "payload", "header"];
+
+/// The contract of an export that writes an arena: its number, its further fields and the arena at exit are what is defined of the arena at entry and of its
+/// words, and nothing else is handed back.
+fn promised_of_written(text: &str, call: &str) -> String {
+    let parameters = parameters(text, call);
+    let written: Vec<&str> = parameters[..5].iter().map(|(name, _)| name.as_str()).collect();
+    assert_eq!(written, COLUMNS, "{call}");
+    assert!(parameters[..5].iter().all(|(_, of)| of.starts_with("&mut [")), "{call} writes all of them");
+    let (columns, defined) = (COLUMNS.join(" "), definition_of(call));
+    let (fields, arguments) = (further(text, call), arguments(call, &parameters[5..]));
+    format!(
+        "ensures {{ λ r. ⌜ reply (r .number) {fields} (atExit {columns}) [] ≡ {defined} capacityLimit (atEntry {columns}) {arguments} ⌝ }}"
+    )
 }
 
 /// The contract of an export that takes an arena. A walk's step is handed the words of its state, and hands them back.
@@ -248,7 +278,7 @@ fn promised_of_arena(text: &str, call: &str) -> String {
     let parameters = parameters(text, call);
     let names: Vec<&str> = parameters.iter().map(|(name, _)| name.as_str()).collect();
     let (columns, own) = (&names[..5], &parameters[5..]);
-    assert_eq!(columns, ["prev", "next", "generation", "payload", "header"], "{call}");
+    assert_eq!(columns, COLUMNS, "{call}");
     let of = result(text, call);
     let mut fields = if of == "Answer" { vec![] } else { words(text, of) };
     let (mut arguments, mut lent, mut back) = (vec![], "[]".to_string(), "[]".to_string());
@@ -298,8 +328,8 @@ fn every_export_promises_what_its_signature_asks_for_and_asks_nothing() {
         assert_eq!(stated(&rattle, call), promised(&rattle, call), "{call}");
     }
     // the words of a contract mean what these modules say: they come from there, and none is renamed
-    for level in LEVELS {
-        for line in exporting(level).lines().filter(|line| line.starts_with("ghost use ")) {
+    for archive in ARCHIVES {
+        for line in exporting(archive).lines().filter(|line| line.starts_with("ghost use ")) {
             assert!(from_home(line), "{line}");
         }
     }
@@ -311,7 +341,7 @@ fn call_of(export: &str) -> String {
     words.map(|word| word[..1].to_uppercase() + &word[1..]).collect()
 }
 
-/// What is defined of a call without an arena, as the definitions name it.
+/// What is defined of a call that is not on an arena, as the definitions name it.
 fn definition_of(export: &str) -> String {
     let name = call_of(export);
     name[..1].to_lowercase() + &name[1..]
@@ -325,6 +355,11 @@ fn from_home(line: &str) -> bool {
         "told" => Some("Rattle.definitions.specs.Clock"),
         name if WITHOUT_ARENA.iter().any(|call| definition_of(call) == name) => {
             Some("Rattle.definitions.specs.Clock")
+        }
+        "reply" => Some("Rattle.definitions.specs.Reply"),
+        "capacityLimit" => Some("Rattle.definitions.specs.Arena"),
+        name if WRITES_ARENA.iter().any(|call| definition_of(call) == name) => {
+            Some("Rattle.all_small.specs.SmallArena")
         }
         "_≡_" => Some("mathlib.Core.Path"),
         "atEntry" | "atExit" => Some("Rattle.definitions.specs.Lent"),
@@ -387,6 +422,11 @@ fn a_word_of_a_contract_from_elsewhere_is_found() {
         "ghost use Rattle.definitions.specs.Calls.{DueCount, lineDots};",
         "ghost use Rattle.definitions.specs.Clock.{told, DueEvents};",
         "ghost use Rattle.definitions.specs.Clock.{lineDots as lineOfDot};",
+        "ghost use Rattle.all_small.specs.Mine.{reply};",
+        "ghost use Rattle.all_small.specs.Mine.{Arena, capacityLimit};",
+        "ghost use Rattle.all_small.specs.Mine.{smallArena};",
+        "ghost use Rattle.all_small.specs.SmallArena.{smallArena, atEntry};",
+        "ghost use Rattle.definitions.specs.Clock.{smallArena};",
         "ghost use Rattle.definitions.specs.Calls.{Connect as BreakPrev, BreakPrev as Connect};",
     ] {
         assert!(!from_home(line), "{line}");
@@ -415,6 +455,25 @@ fn a_weaker_promise_is_found_in_every_export() {
                 wrong(&format!("≡ {defined} {first} ⌝"), &format!("≡ {defined} 0 ⌝")),
                 wrong(&format!("≡ {defined} "), &format!("≡ {} ", other.unwrap())),
             ]);
+        } else if WRITES_ARENA.contains(&call) {
+            let (defined, own) = (definition_of(call), &parameters(&rattle, call)[5].0);
+            let fields = further(&rattle, call);
+            let exchanged = fields.replace("r .found ∷ r .length", "r .length ∷ r .found");
+            weaker.extend([
+                wrong("⌜ reply ", "⌜ ⊥ → reply "),
+                wrong("(atExit ", "(atEntry "),
+                wrong("(atEntry ", "(atExit "),
+                wrong("(atExit prev next ", "(atExit next prev "),
+                wrong("(atEntry prev next generation payload ", "(atEntry prev next payload generation "),
+                wrong("reply (r .number) ", "reply 0 "),
+                wrong(&fields, &exchanged),
+                wrong(&fields, &fields.replace("r .length ∷ ", "")),
+                wrong(&fields, &fields.replace("r .found", "1")),
+                wrong(" header) []", " header) (now (prev .exit))"),
+                wrong(&format!("≡ {defined} "), "≡ lineOfDot "),
+                wrong(" capacityLimit (", " 3 ("),
+                wrong(&format!(" {own} ⌝"), " 0 ⌝"),
+            ]);
         } else {
             weaker.extend([wrong("⌜ Answered ", "⌜ ⊥ → Answered "), wrong("(atExit ", "(atEntry ")]);
         }
@@ -425,13 +484,13 @@ fn a_weaker_promise_is_found_in_every_export() {
 }
 
 #[test]
-fn each_level_lists_what_its_crates_export() {
-    for level in LEVELS {
-        let source = exporting(level);
+fn each_archive_lists_what_its_crates_export() {
+    for archive in ARCHIVES {
+        let source = exporting(archive);
         let exports = source.split("#[no_mangle]\npub extern \"C\" fn ").skip(1);
         let names: BTreeSet<&str> = exports.filter_map(|text| text.split('(').next()).collect();
-        assert_eq!(level.exports.iter().copied().collect::<BTreeSet<_>>(), names, "{}", level.name);
-        assert_eq!(level.exports.len(), names.len(), "{} lists a name twice", level.name);
+        assert_eq!(archive.exports.iter().copied().collect::<BTreeSet<_>>(), names, "{}", archive.name);
+        assert_eq!(archive.exports.len(), names.len(), "{} lists a name twice", archive.name);
     }
 }
 
@@ -440,8 +499,7 @@ fn rattle_c_and_rust_declare_the_same() {
     let (rattle, header, rust) = (rattle(), read("include/chain_arena.h"), read("host/src/ffi.rs"));
     for call in calls() {
         let exported = of_rust(&rattle, call);
-        let first: &[&str] =
-            if WITHOUT_ARENA.contains(&call) { &["number"] } else { &["number", "broken", "side"] };
+        let first: &[&str] = if is_on_arena(call) { &["number", "broken", "side"] } else { &["number"] };
         let names: Vec<&str> = exported.fields.iter().map(|(name, _)| name.as_str()).collect();
         let shared = names.iter().copied().filter(|name| ["number", "broken", "side"].contains(name));
         assert!(names.starts_with(first) && shared.eq(first.iter().copied()), "{call}: {names:?}");
@@ -465,14 +523,14 @@ fn an_exchange_of_two_parameters_or_fields_is_found_in_every_export() {
             }
         };
         plant(&format!("fn {call}("), ")");
-        let (shared, least): (&[&str], _) =
-            if WITHOUT_ARENA.contains(&call) { (&[], 1) } else { (&["Answer"], 5) };
+        let shared: &[&str] = if is_on_arena(call) { &["Answer"] } else { &[] };
+        let least = if WITHOUT_ARENA.contains(&call) { 1 } else { 5 };
         for of in shared.iter().copied().chain([result(&rattle, call)]) {
             plant(&format!("pub struct {of} {{"), "}");
         }
         assert!(
             planted >= least,
-            "{call}: prev and next, generation and payload, any two of number, broken and side; without an arena, the number and a field"
+            "{call}: prev and next, generation and payload, any two of number, broken and side or of other fields; without an arena, the number and a field"
         );
     }
 }

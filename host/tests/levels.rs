@@ -1,13 +1,15 @@
-//! The tests that differ by the levels that are linked: the archives, the wrapper, its clock, the C header, and how their numbers are told.
+//! The tests that differ by what is linked: the archives, the wrapper, its clock, the small arenas, the C header, and how their numbers are told.
 
-/// The levels that are sold.
+/// What is sold.
 #[path = "../levels.rs"]
 mod sold;
 
 #[cfg(feature = "level-one")]
 mod clock;
 mod exports;
-#[cfg(any(feature = "level-one", feature = "level-two", feature = "level-three"))]
+#[cfg(any(feature = "level-one", feature = "level-two", feature = "level-three", feature = "small-arenas"))]
 mod header;
 mod numbers;
+#[cfg(feature = "small-arenas")]
+mod small_arenas;
 mod wrapper;

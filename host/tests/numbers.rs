@@ -7,6 +7,8 @@ use std::path::Path;
 
 use chain_arena::{RefusalKind, Side};
 
+use crate::sold::{ARCHIVES, is_on_arena};
+
 /// A row of the table: number, name as C has it, meaning, and which calls.
 type Row = (u32, String, String, String);
 
@@ -91,7 +93,8 @@ fn the_table_is_the_same_everywhere() {
     let mut commented = commented();
     for row in commented.iter_mut().filter(|row| row.0 <= 11) {
         let all = if row.0 == 0 { "all" } else { "all with an arena" };
-        assert_eq!(std::mem::replace(&mut row.3, all.to_string()), "", "{} is a number of all these", row.0);
+        let more = if row.3.is_empty() { "" } else { ", " };
+        row.3.insert_str(0, &format!("{all}{more}"));
     }
     assert_eq!(commented, table);
 }
@@ -209,13 +212,18 @@ fn the_words_of_a_moved_link_are_those_of_the_wrapper() {
     assert_eq!(constants("CHAIN_ARENA_COMPRESS_"), [(moved, "WORDS".to_string())]);
 }
 
-/// The numbers from 12 to 19 in the comment that stands above a declaration; the codes of insertions, 6 to 19, are none.
-fn above(source: &str, declaration: &str) -> Vec<u32> {
+/// The numbers in the comment that stands above a declaration: from 12 to 19, but for the codes of insertions, 6 to 19; or, if
+/// the call checks no arena, all before a colon.
+fn above(source: &str, declaration: &str, checks: bool) -> Vec<u32> {
     let start = source.find(declaration).unwrap_or_else(|| panic!("{declaration} is not there"));
     let comment = |line: &&str| ["/*", " *", "    ///"].iter().any(|sign| line.starts_with(sign));
     let mut lines: Vec<&str> = source[..start].trim_end().lines().rev().take_while(comment).collect();
     lines.reverse();
     let text = lines.join(" ").replace("6 to 19", "");
+    if !checks {
+        let before = text.match_indices(':').filter_map(|(place, _)| text[..place].rsplit(' ').next());
+        return once(before.filter_map(|word| word.parse().ok()));
+    }
     let numbers = text.split(|c: char| !c.is_ascii_digit());
     once(numbers.filter_map(|word| word.parse().ok()).filter(|n| (12..=19).contains(n)))
 }
@@ -235,10 +243,11 @@ fn once(numbers: impl Iterator<Item = u32>) -> Vec<u32> {
 fn each_declaration_tells_the_numbers_of_its_call() {
     let (ffi, header) = (read("host/src/ffi.rs"), read("include/chain_arena.h"));
     for (call, order) in ORDER {
-        let numbers = once(order.iter().copied());
-        assert_eq!(above(&ffi, &format!("    pub fn chain_arena_{call}(")), numbers, "{call} in ffi.rs");
+        let (numbers, checks) = (once(order.iter().copied()), is_on_arena(&format!("chain_arena_{call}")));
+        let declared = format!("    pub fn chain_arena_{call}(");
+        assert_eq!(above(&ffi, &declared, checks), numbers, "{call} in ffi.rs");
         let line = header.lines().find(|line| line.ends_with(&format!(" chain_arena_{call}("))).unwrap();
-        assert_eq!(above(&header, line), numbers, "{call} in the C header");
+        assert_eq!(above(&header, line, checks), numbers, "{call} in the C header");
     }
 }
 
@@ -256,7 +265,8 @@ fn the_sections_that_the_header_names_are_there() {
     }
 }
 
-/// The numbers that are told under `# Errors` of a method, in their order, behind those of the check, which are told if `checks`.
+/// The numbers that are told under `# Errors` of a method, in their order; if `checks`, those behind the check's, which are told
+/// first.
 fn documented(source: &str, method: &str, checks: bool) -> Vec<u32> {
     let start = source.find(&format!("    {method}")).unwrap_or_else(|| panic!("no method {method}"));
     let doc = |line: &&str| line.trim_start().starts_with("//") || line.contains("#[");
@@ -271,12 +281,12 @@ fn documented(source: &str, method: &str, checks: bool) -> Vec<u32> {
     };
     own.split(|c: char| !c.is_ascii_digit())
         .filter_map(|word| word.parse().ok())
-        .filter(|&n| n > 11)
+        .filter(|&n| !checks || n > 11)
         .collect()
 }
 
 /// What each call refuses of its own, in its order (REFERENCE, the call's section).
-const ORDER: [(&str, &[u32]); 23] = [
+const ORDER: [(&str, &[u32]); 24] = [
     ("check", &[]),
     ("get_link", &[12]),
     ("get_link_no_gen", &[12]),
@@ -300,16 +310,17 @@ const ORDER: [(&str, &[u32]); 23] = [
     ("run", &[16, 14]),
     ("compress_with", &[14]),
     ("compress_canonical", &[14]),
+    ("small_arena", &[1, 14]),
 ];
 
 #[test]
 fn each_method_tells_the_numbers_of_its_call() {
     let own: Vec<Row> =
-        told("docs/REFERENCE.md").into_iter().filter(|row| (12..100).contains(&row.0)).collect();
+        told("docs/REFERENCE.md").into_iter().filter(|row| (1..100).contains(&row.0)).collect();
     let calls =
-        crate::sold::LEVELS.iter().flat_map(|level| level.exports.iter().map(move |export| (level, export)));
+        ARCHIVES.iter().flat_map(|archive| archive.exports.iter().map(move |export| (archive, export)));
     assert_eq!(calls.clone().count(), ORDER.len());
-    for ((level, export), (call, order)) in calls.zip(ORDER) {
+    for ((archive, export), (call, order)) in calls.zip(ORDER) {
         assert_eq!(export.strip_prefix("chain_arena_"), Some(call));
         let called = |calls: &str| calls.split(';').next().unwrap().split(", ").any(|name| name == call);
         let numbers = own.iter().filter(|(.., calls)| called(calls)).map(|(number, ..)| *number);
@@ -318,12 +329,13 @@ fn each_method_tells_the_numbers_of_its_call() {
             numbers.collect(),
             "{call} in the table"
         );
-        let elsewhere = match call {
-            "walk_step" => read("host/src/walk.rs"),
-            "line_of_dot" | "line_dots" => read("host/src/clock.rs"),
-            _ => String::new(),
+        let file = match call {
+            "walk_step" => "walk",
+            "line_of_dot" | "line_dots" => "clock",
+            "small_arena" => "small",
+            _ => archive.name,
         };
-        let source = read(&format!("host/src/{}.rs", level.name)) + &elsewhere;
+        let source = read(&format!("host/src/{file}.rs"));
         let method = match call {
             "walk_step" => "pub fn step(",
             "run" => "pub fn run_words(",
@@ -337,8 +349,7 @@ fn each_method_tells_the_numbers_of_its_call() {
         let typed =
             |number: &&u32| matches!((call, **number), ("insert", 16) | ("due_count" | "due_events", 19));
         let told: Vec<u32> = order.iter().filter(|number| !typed(number)).copied().collect();
-        let checks = !crate::sold::WITHOUT_ARENA.contains(export);
-        assert_eq!(documented(&source, method, checks), told, "{call}");
+        assert_eq!(documented(&source, method, is_on_arena(export)), told, "{call}");
     }
 }
 

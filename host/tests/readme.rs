@@ -4,7 +4,7 @@ use std::collections::BTreeSet;
 use std::fs;
 use std::path::{Path, PathBuf};
 
-use crate::sold::LEVELS;
+use crate::sold::ARCHIVES;
 
 /// Every document.
 fn documents() -> Vec<PathBuf> {
@@ -57,16 +57,16 @@ fn every_link_leads_to_a_file_and_to_a_heading_in_it() {
 fn every_call_is_in_the_table() {
     let root = Path::new(env!("CARGO_MANIFEST_DIR")).join("..");
     let text = fs::read_to_string(root.join("README.md")).unwrap();
-    for level in LEVELS {
-        let feature = format!("| `{}` |", level.name.replace('_', "-"));
-        let row = text.lines().find(|line| line.contains(&feature)).expect("a row for each level");
+    for archive in ARCHIVES {
+        let feature = format!("| `{}` |", archive.name.replace('_', "-"));
+        let row = text.lines().find(|line| line.contains(&feature)).expect("a row for each archive");
         let named: Vec<&str> =
             row.rsplit(" |").nth(1).unwrap_or_default().split('`').skip(1).step_by(2).collect();
         let exports: Vec<&str> =
-            level.exports.iter().filter_map(|name| name.strip_prefix("chain_arena_")).collect();
+            archive.exports.iter().filter_map(|name| name.strip_prefix("chain_arena_")).collect();
         let (named, exports): (BTreeSet<_>, BTreeSet<_>) =
             (named.into_iter().collect(), exports.into_iter().collect());
-        assert_eq!(named, exports, "{}", level.name);
+        assert_eq!(named, exports, "{}", archive.name);
     }
 }
 
@@ -88,8 +88,8 @@ fn edits() -> Vec<(String, String, String)> {
 
 #[test]
 fn every_export_has_two_edits_one_of_them_in_its_own_crate() {
-    for (level, export) in
-        LEVELS.iter().flat_map(|level| level.exports.iter().map(move |export| (level, export)))
+    for (archive, export) in
+        ARCHIVES.iter().flat_map(|archive| archive.exports.iter().map(move |export| (archive, export)))
     {
         let owners: Vec<String> = edits()
             .into_iter()
@@ -97,9 +97,8 @@ fn every_export_has_two_edits_one_of_them_in_its_own_crate() {
             .map(|(owner, ..)| owner)
             .collect();
         assert!(owners.len() >= 2, "{export} has {} edits", owners.len());
-        let own = format!("{}_", level.name);
         assert!(
-            owners.iter().any(|owner| owner.starts_with(&own)),
+            owners.iter().any(|owner| crate::is_made_from(archive.name, owner)),
             "no edit of {export} is in the export itself"
         );
     }

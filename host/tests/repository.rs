@@ -1,6 +1,6 @@
 //! The tests that are about the repository: its scripts, its proofs' guards, its declarations, its table of line starts, its documents and its package.
 
-/// The levels that are sold.
+/// What is sold.
 #[path = "../levels.rs"]
 mod sold;
 
@@ -12,3 +12,8 @@ mod layout;
 mod line_starts;
 mod package;
 mod readme;
+
+/// Whether an archive is made from a crate, by their names, as the script `archives` has it.
+fn is_made_from(archive: &str, name: &str) -> bool {
+    name.strip_prefix(archive).is_some_and(|rest| rest.is_empty() || rest.starts_with('_'))
+}

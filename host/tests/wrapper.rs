@@ -211,10 +211,10 @@ fn refusals(arena: &OwnedArena) -> Refused {
         let mut columns = arena.clone();
         let refused = calls(&mut columns);
         assert_eq!(columns, *arena, "{name}");
-        let level = crate::sold::LEVELS.iter().find(|level| level.name == *name).unwrap();
+        let level = crate::sold::ARCHIVES.iter().find(|archive| archive.name == *name).unwrap();
         let tried = |export: &str| refused.iter().any(|(call, _)| export == format!("chain_arena_{call}"));
-        let mut of_arena = level.exports.iter().filter(|export| !crate::sold::WITHOUT_ARENA.contains(export));
-        assert!(of_arena.all(|export| tried(export)), "a call of {name} is not tried");
+        let mut on_arena = level.exports.iter().filter(|export| crate::sold::is_on_arena(export));
+        assert!(on_arena.all(|export| tried(export)), "a call of {name} is not tried");
         all.extend(refused);
     }
     all
@@ -1233,6 +1233,8 @@ fn any_calls(columns: &mut OwnedArena, noise: Noise<'_>) -> bool {
         level_two::any_calls,
         #[cfg(feature = "level-three")]
         level_three::any_calls,
+        #[cfg(feature = "small-arenas")]
+        |columns, noise| columns.as_arena_mut().small_arena(noise() % 128).is_ok(),
     ];
     let refused = calls.iter().filter(|call| !call(columns, noise)).count();
     refused == 0

@@ -1,7 +1,9 @@
 //! Random calls with random arguments, on any arena.
 
 use crate::random::Random;
-use crate::words::{CALLS_IN_ALL, DUE_COUNT, DUE_EVENTS, INSERT, LINE_DOTS, LINE_OF_DOT, calls_on_arenas};
+use crate::words::{
+    CALLS_IN_ALL, DUE_COUNT, DUE_EVENTS, INSERT, LINE_DOTS, LINE_OF_DOT, SMALL_ARENA, calls_on_arenas,
+};
 use crate::{Arena, COMMAND_WORDS, Call, Ptr, Reading, Walk, frame, kind, model, random};
 
 /// The header's word, 0 if the header has none.
@@ -167,6 +169,17 @@ fn some_line(r: &mut Random) -> u32 {
     if r.once_in(8) { r.pick(&[frame::LINES, frame::LINES + 1, line + 65_536, u32::MAX]) } else { line }
 }
 
+/// The index of a small arena, now and then one past the last, or one whose lower half or quarter is an index.
+pub fn some_index(r: &mut Random) -> u32 {
+    let index = r.below(model::small_arenas().len()) as u32;
+    let past = index + 90;
+    if r.once_in(6) {
+        r.pick(&[past, 90, 256 + index, 65_536 + index, (1 << 31) + index, u32::MAX])
+    } else {
+        index
+    }
+}
+
 /// How many links the chain of a pointer has, on any arena: at most as many as there are.
 fn chain_length(a: &Arena, p: Ptr) -> usize {
     let along = |column: &[u16]| {
@@ -188,8 +201,10 @@ fn some_events(r: &mut Random, a: &Arena, p: Ptr) -> Vec<u16> {
     vec![noise; r.pick(&[0, chain.saturating_sub(1), chain, chain, chain + 1, chain + 3])]
 }
 
-/// How often each call is made, by its code; insertions so often that arenas are filled again and again.
-const OFTEN: [usize; CALLS_IN_ALL] = [1, 4, 3, 3, 3, 10, 12, 3, 3, 8, 6, 1, 1, 1, 1, 1, 1, 1, 12, 1, 1, 3, 4];
+/// How often each call is made, by its code; insertions so often that arenas are filled again and again, and none that puts a
+/// small arena in the place of the one that a sequence goes on with.
+const OFTEN: [usize; CALLS_IN_ALL] =
+    [1, 4, 3, 3, 3, 10, 12, 3, 3, 8, 6, 1, 1, 1, 1, 1, 1, 1, 12, 1, 1, 3, 4, 0];
 
 /// A random call.
 pub fn some_call(r: &mut Random, a: &Arena, kept: &[Walk]) -> Call {
@@ -202,7 +217,7 @@ pub fn some_call(r: &mut Random, a: &Arena, kept: &[Walk]) -> Call {
     call_of(code, r, a, kept)
 }
 
-/// Each of the calls that take an arena once.
+/// Each of the calls on an arena once.
 pub fn each_call(r: &mut Random, a: &Arena) -> impl Iterator<Item = Call> {
     calls_on_arenas().map(move |code| call_of(code, r, a, &[]))
 }
@@ -247,6 +262,7 @@ pub fn call_of(code: usize, r: &mut Random, a: &Arena, kept: &[Walk]) -> Call {
             let (from, to) = some_window(r, a);
             Call::DueEvents(p, from, to, some_events(r, a, p))
         }
+        SMALL_ARENA => Call::SmallArena(some_index(r)),
         _ => {
             let places = if r.once_in(8) { a.capacity() + 1 } else { a.capacity() };
             Call::CompressCanonical(r.below(2) as u32, vec![noise as u16; places])

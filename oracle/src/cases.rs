@@ -1,15 +1,85 @@
 //! Cases taken whole: every small arena, every tuple of words, every call with every pointer.
 
-use crate::calls::command;
+use std::sync::OnceLock;
+
+use crate::calls::{command, some_index};
+use crate::compare::{Counts, Mismatch, Product, compare};
+use crate::model::SMALL;
 use crate::random::{self, Random};
-use crate::{Arena, COMMAND_WORDS, Call, Ptr, Reading, Walk, frame, kind, model};
+use crate::{Archive, Arena, COMMAND_WORDS, Call, LIMIT, Ptr, Reading, Walk, frame, guards, kind, model};
 
 /// How many arenas of stack length 0, 1, and so on up to 6 pass the check.
 pub const COUNTS: [usize; 7] = [1, 3, 13, 73, 501, 4_051, 37_633];
 
 /// Every arena of a stack length that passes the check, with no room above the stack. All generations are 5, a payload is
-/// 100 and the slot, and words that nobody looks at are 0.
+/// 100 and the slot, and words that nobody looks at are 0. Those of up to three slots are taken from the exported call.
 pub fn small_arenas(length: usize) -> Vec<Arena> {
+    if length > SMALL {
+        return enumerated(length);
+    }
+    given().iter().filter(|a| a.stack() == length).map(|a| marked(a, 5, 100)).collect()
+}
+
+/// The arena with a generation for its links and the header, and for each payload the slot and so much more.
+fn marked(a: &Arena, generation: u32, more: u32) -> Arena {
+    let mut a = a.clone();
+    for s in a.link_slots().collect::<Vec<usize>>() {
+        (a.generation[s - 1], a.payload[s - 1]) = (generation, s as u32 + more);
+    }
+    a.header[crate::header::GENERATION] = generation;
+    a
+}
+
+/// All small arenas as the exported call gives them, taken once; if it is not linked, those of the model.
+///
+/// # Panics
+///
+/// If the call gives others than it must. So no section goes on with an arena too few, too many or another one.
+pub fn given() -> &'static [Arena] {
+    static GIVEN: OnceLock<Vec<Arena>> = OnceLock::new();
+    if !Archive::SmallArenas.is_linked() {
+        return model::small_arenas();
+    }
+    GIVEN.get_or_init(|| given_by(&guards::outcome).unwrap_or_else(|mismatch| panic!("{mismatch}")))
+}
+
+/// All small arenas as a product gives them, index by index until it has no more. Each must be the one that the model finds
+/// among all tuples of words; and put in order the enumerated ones must be the same, word for word.
+pub fn given_by(product: Product) -> Result<Vec<Arena>, Box<Mismatch>> {
+    let (mut r, mut counts, mut arenas) = (Random::new(4), Counts::default(), Vec::new());
+    loop {
+        let before = random::noisy(&mut r, [SMALL, SMALL, SMALL, SMALL, 4]);
+        let given = compare(product, &before, &Call::SmallArena(arenas.len() as u32), &mut counts)?;
+        assert_eq!(counts.with_exports, counts.cases, "the product has no such call");
+        let [found, length, ..] = given.reply.words;
+        if found == 0 {
+            break;
+        }
+        arenas.push(lent_on(given.arena, length as usize));
+    }
+    let mut listed: Vec<Arena> = (0..=SMALL).flat_map(enumerated).map(|a| marked(&a, 2, 0)).collect();
+    listed.sort_by_key(place);
+    assert!(arenas == listed, "the enumeration has other small arenas than the call and the model");
+    Ok(arenas)
+}
+
+/// What the order of the small arenas goes by: stack length, root, then slot by slot generation, prev and next.
+pub fn place(a: &Arena) -> (usize, u32, Vec<(u32, u16, u16)>) {
+    let slot = |place: usize| (a.generation[place], a.prev[place], a.next[place]);
+    (a.stack(), a.root(), (0..a.stack()).map(slot).collect())
+}
+
+/// The first so many words of the columns, together with the header.
+pub fn lent_on(mut a: Arena, length: usize) -> Arena {
+    a.prev.truncate(length);
+    a.next.truncate(length);
+    a.generation.truncate(length);
+    a.payload.truncate(length);
+    a
+}
+
+/// The same arenas as `small_arenas` in another order, put together link by link: of any length, and without the exported call.
+pub fn enumerated(length: usize) -> Vec<Arena> {
     let mut arenas = Vec::new();
     for mut a in lone_arenas(length) {
         let links: Vec<usize> = a.link_slots().collect();
@@ -82,13 +152,18 @@ pub fn dressed(a: &Arena, r: &mut Random, room: usize, links: &[u32], current: u
             a.generation[place] = r.pick(links);
         }
     }
+    a.header[crate::header::GENERATION] = current;
+    with_room(a, r, room)
+}
+
+/// The arena with `room` more places, noise in them.
+pub fn with_room(mut a: Arena, r: &mut Random, room: usize) -> Arena {
     for _ in 0..room {
         a.prev.push(r.word() as u16);
         a.next.push(r.word() as u16);
         a.generation.push(r.word());
         a.payload.push(r.word());
     }
-    a.header[crate::header::GENERATION] = current;
     a
 }
 
@@ -199,11 +274,12 @@ pub fn with_false_neighbour(mut a: Arena, s: usize) -> Arena {
     a
 }
 
-/// Pointers to slots 0 to the stack length and 1: with the generation there, with another, and with 0.
+/// Pointers to slots 0 to the stack length and 1: with the generation there, or the current one if there is no link, with
+/// another, and with 0.
 pub fn pointers(a: &Arena) -> Vec<Ptr> {
     let mut pointers = Vec::new();
     for s in 0..=a.stack() + 1 {
-        let there = if a.is_link(s) { a.generation[s - 1] } else { 5 };
+        let there = if a.is_link(s) { a.generation[s - 1] } else { a.current() };
         let another = there.wrapping_add(1).max(1);
         for generation in [there, another, 0] {
             pointers.push(Ptr { slot: s as u16, generation });
@@ -366,12 +442,13 @@ fn each_pair(commands: &[[u32; COMMAND_WORDS]], mut found: impl FnMut(Call)) {
 }
 
 /// Pointers to slots 0 to the stack length and 1, each with the word that stands in the generation column, also of a free
-/// slot and above the stack, and with another one, for every second slot one that differs in its upper half alone; and a
-/// pointer to the largest slot.
+/// slot and above the stack, or the current generation if there is none, and with another one, for every second slot one
+/// that differs in its upper half alone; and a pointer to the largest slot.
 fn slots_and_words(a: &Arena) -> Vec<Ptr> {
     let mut pointers = Vec::new();
     for s in 0..=a.stack() + 1 {
-        let there = s.checked_sub(1).and_then(|place| a.generation.get(place)).copied().unwrap_or(5);
+        let there =
+            s.checked_sub(1).and_then(|place| a.generation.get(place)).copied().unwrap_or(a.current());
         let another = match there {
             0 => a.current(),
             _ if s % 2 == 0 => there ^ 0x1_0000,
@@ -550,12 +627,16 @@ fn windows(a: &Arena) -> Vec<(u32, u32)> {
 
 /// What is due of every chain from every start, and of stale pointers, in every window for the arena's payloads: the count, and
 /// the events in reports that are empty, as long as the events, one word shorter than the chain, as long as it, and one longer.
-pub fn each_due(a: &Arena, mut found: impl FnMut(Call)) {
-    let windows = windows(a);
+pub fn each_due(a: &Arena, found: impl FnMut(Call)) {
+    each_due_in(a, &windows(a), found);
+}
+
+/// The same in these windows.
+fn each_due_in(a: &Arena, windows: &[(u32, u32)], mut found: impl FnMut(Call)) {
     for p in pointers(a) {
         let stale = !a.is_link(p.slot.into());
         let chain = if stale { vec![] } else { model::chain_of(a, p.slot.into()) };
-        for &(from, to) in &windows {
+        for &(from, to) in windows {
             found(Call::DueCount(p, from, to));
             let due = chain.iter().filter(|&&s| model::is_due(a.payload[s - 1], from, to)).count();
             let mut rooms = vec![0, due, chain.len().saturating_sub(1), chain.len(), chain.len() + 1];
@@ -565,5 +646,99 @@ pub fn each_due(a: &Arena, mut found: impl FnMut(Call)) {
                 found(Call::DueEvents(p, from, to, vec![0xbeef; words]));
             }
         }
+    }
+}
+
+// The small arenas as the exported call gives them
+
+/// Every small arena as the call gives it, and each with one place more, in which there is noise.
+pub fn given_arenas() -> Vec<Arena> {
+    let mut r = Random::new(90);
+    given().iter().flat_map(|a| [a.clone(), with_room(a.clone(), &mut r, 1)]).collect()
+}
+
+/// Every call on an arena of up to three slots, with every pointer and every two: all readings, edits, insertions and
+/// compressions; what is due between any two dots near its payloads; and runs of every two commands, insertions among them if
+/// there are at most so many slots.
+pub fn every_call(a: &Arena, slots_of_pairs: usize, mut found: impl FnMut(Call)) {
+    each_reading(a, &mut found);
+    each_due_in(a, &windows_of_slots(), &mut found);
+    each_edit(a, &mut found);
+    each_insertion(a, &mut found);
+    let pointers = pointers(a);
+    for (&p, &q) in pointers.iter().flat_map(|p| pointers.iter().map(move |q| (p, q))) {
+        found(Call::Insert(kind::DISCONNECTED - 1, p, q, 7));
+        found(Call::Insert(kind::BRIDGE_INX + 1, p, q, 8));
+    }
+    each_compression(a, &mut found);
+    each_pair_of_edits(a, &mut found);
+    if a.stack() <= slots_of_pairs {
+        each_pair_of_commands(a, &mut found);
+    }
+}
+
+/// Windows for payloads that are slots: between any two dots from 0 to one past the last slot, up to the frame's end and from its
+/// last dot on, and some with an end that is none.
+fn windows_of_slots() -> Vec<(u32, u32)> {
+    const LAST: u32 = frame::DOTS - 1;
+    let dots: Vec<u32> = (0..=SMALL as u32 + 1).collect();
+    let mut windows =
+        vec![(LAST, frame::DOTS), (frame::DOTS, 2), (2, frame::DOTS + 1), (2, u32::MAX), (u32::MAX, 2)];
+    for &dot in &dots {
+        windows.extend([(dot, frame::DOTS), (LAST, dot)]);
+        windows.extend(dots.iter().map(|&other| (dot, other)));
+    }
+    windows
+}
+
+/// Lengths of columns and header for the call that writes a small arena: equal columns of up to five words with a header of four
+/// and of other lengths, unequal ones of every combination of such lengths, and about 65,535 words, one column a word longer or
+/// shorter or none.
+pub fn lengths_to_write() -> Vec<[usize; 5]> {
+    let equal = |capacity: usize, header: usize| [capacity, capacity, capacity, capacity, header];
+    let few = 0..=5;
+    let mut lengths: Vec<[usize; 5]> = Vec::new();
+    for header in [4, 0, 1, 2, 3, 5, 6] {
+        lengths.extend(few.clone().map(|capacity| equal(capacity, header)));
+    }
+    for (prev, next) in few.clone().flat_map(|prev| few.clone().map(move |next| (prev, next))) {
+        let rest = few.clone().flat_map(|generation| few.clone().map(move |payload| (generation, payload)));
+        let unequal = rest.filter(|&(generation, payload)| [next, generation, payload] != [prev; 3]);
+        lengths.extend(unequal.map(|(generation, payload)| [prev, next, generation, payload, 4]));
+    }
+    for capacity in LIMIT - 1..=LIMIT + 2 {
+        lengths.push(equal(capacity, 4));
+        for column in 0..4 {
+            for other in [capacity - 1, capacity + 1] {
+                let mut unequal = equal(capacity, 4);
+                unequal[column] = other;
+                lengths.push(unequal);
+            }
+        }
+    }
+    lengths
+}
+
+/// Indexes of small arenas, all or a few: the first of each stack length among them, the last one and the one past it, numbers whose
+/// lower half or quarter is an index, and random ones.
+pub fn indexes(r: &mut Random, all: bool) -> Vec<u32> {
+    const FAR: [u32; 12] = [
+        255,
+        256,
+        256 + 17,
+        65_535,
+        65_536,
+        65_537,
+        65_536 + 89,
+        1 << 24,
+        1 << 31,
+        (1 << 31) + 89,
+        u32::MAX - 1,
+        u32::MAX,
+    ];
+    if all {
+        (0..=100).chain(FAR).chain((0..8).map(|_| r.word())).collect()
+    } else {
+        vec![0, 1, 4, 17, 89, 90, 256, some_index(r)]
     }
 }

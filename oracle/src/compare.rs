@@ -5,7 +5,7 @@ use std::io::{Write, stderr};
 
 #[cfg(crate_text)]
 use crate::Reading;
-use crate::{Arena, Call, Reply, exports, model, show, side, wrapper};
+use crate::{Archive, Arena, Call, Reply, exports, model, show, side, wrapper};
 
 /// What a call leaves: its reply, the slices that it was lent, and the arena.
 #[derive(Clone, Debug, PartialEq, Eq)]
@@ -117,15 +117,14 @@ impl Counts {
     }
 
     /// Says how many cases there were, past the test harness, which keeps the lines of tests that pass; and holds to it
-    /// that each was asked of an exported call, if all levels are linked.
+    /// that each was asked of an exported call, if all archives are linked.
     pub fn say(&self, what: &str) {
         let _ = writeln!(stderr(), "{what}: {self}");
-        let missing: Vec<usize> = (1..=3).filter(|&level| !exports::linked(level)).collect();
+        let missing: Vec<Archive> = Archive::ALL.into_iter().filter(|archive| !archive.is_linked()).collect();
         if missing.is_empty() {
             assert_eq!(self.with_exports, self.cases, "{what}: an exported call was not asked");
         } else if self.with_exports < self.cases {
-            let _ =
-                writeln!(stderr(), "{what}: not linked, and so not asked: the calls of level {missing:?}");
+            let _ = writeln!(stderr(), "{what}: not linked, and so not asked: the calls of {missing:?}");
         }
     }
 }
@@ -224,7 +223,7 @@ pub fn export_outcome(before: &Arena, call: &Call) -> Option<Answer> {
     Some(Ok(Outcome { reply, call, arena }))
 }
 
-/// What the call leaves if it is made through the safe wrapper, if its level is linked and the wrapper can name its kind or its
+/// What the call leaves if it is made through the safe wrapper, if its archive is linked and the wrapper can name its kind or its
 /// window.
 pub fn wrapper_outcome(before: &Arena, call: &Call) -> Option<Outcome> {
     let (mut arena, mut call) = (before.clone(), call.clone());
@@ -280,10 +279,13 @@ fn asked_product(
     None
 }
 
-/// Holds the crate's text to what the model leaves. On an arena that does not pass, the crate has its check and no other
-/// call. That check names no slot: with 11 the number is compared with the crate's, and slot and side are the model's, to which
+/// Holds the crate's text to what the model leaves. It has no call but on an arena, and on one that does not pass its check and
+/// no other. That check names no slot: with 11 the number is compared with the crate's, and slot and side are the model's, to which
 /// the product is held word by word. If the arena is small, `crate_place` confirms them.
 fn asked_crate(before: &Arena, call: &Call, expected: &Outcome, counts: &mut Counts) -> Parted {
+    if !call.takes_arena() {
+        return None;
+    }
     if !(1..=11).contains(&expected.reply.number) {
         let found = crate_outcome(before, call)?;
         counts.with_crate += 1;

@@ -175,7 +175,7 @@ impl CrateArena {
     }
 
     /// Makes one call on an arena that passes the check, or none where the crate has no such call: 14, 15, 16 and 19, lines of
-    /// a frame, and states of a walk and pointers of an insertion that its types cannot hold.
+    /// a frame, small arenas, and states of a walk and pointers of an insertion that its types cannot hold.
     pub fn perform(&mut self, call: &mut Call) -> Option<Reply> {
         self.taken.clear();
         Some(match call {
@@ -209,7 +209,7 @@ impl CrateArena {
             Call::CompressWith(reset, report) => self.compress_with(*reset != 0, report)?,
             Call::CompressCanonical(reset, from) => self.compress_canonical(*reset != 0, from)?,
             Call::Insert(kind, p, q, payload) => self.insert(*kind, *p, *q, *payload)?,
-            Call::LineOfDot(_) | Call::LineDots(_) => return None,
+            Call::LineOfDot(_) | Call::LineDots(_) | Call::SmallArena(_) => return None,
             Call::DueCount(p, from, to) => self.due(*p, *from, *to, None)?,
             Call::DueEvents(p, from, to, report) => self.due(*p, *from, *to, Some(report))?,
         })

@@ -1,13 +1,13 @@
-//! The same calls through the archives, word by word as they answer, for the levels that are linked.
+//! The same calls through the archives, word by word as they answer, for the archives that are linked.
 
-use crate::{Arena, Call, Reply};
+use crate::{Archive, Arena, Call, Reply};
 
-/// Makes an exported call on the words between `guard` words at each end of an arena's columns and header, and answers the
-/// named further words of its result.
-macro_rules! call {
-    ($call:ident($arena:expr, $guard:expr, $pointer:ident $(, $argument:expr)*) $($word:ident)*) => {{
+/// Makes an exported call on the words between `guard` words at each end of an arena's columns and header, and answers its
+/// result.
+macro_rules! result {
+    ($call:ident($arena:expr, $guard:expr, $pointer:ident $(, $argument:expr)*)) => {
         // Safety: each pointer and count are those of one vector, less its guard words, and no two calls lend one vector.
-        let answer = unsafe {
+        unsafe {
             chain_arena::ffi::$call(
                 $arena.prev.$pointer().add($guard),
                 $arena.prev.len() - 2 * $guard,
@@ -21,14 +21,16 @@ macro_rules! call {
                 $arena.header.len() - 2 * $guard,
                 $($argument),*
             )
-        };
-        Reply { broken: answer.broken, side: answer.side, ..Reply::new(answer.number, &[$(answer.$word),*]) }
-    }};
+        }
+    };
 }
 
-/// Whether the archive of a level, 1 to 3, is linked.
-pub fn linked(level: usize) -> bool {
-    [true, cfg!(level_two), cfg!(level_three)][level - 1]
+/// The same of a call on an arena, with the named further words of its result.
+macro_rules! call {
+    ($call:ident($($lent:tt)*) $($word:ident)*) => {{
+        let answer = result!($call($($lent)*));
+        Reply { broken: answer.broken, side: answer.side, ..Reply::new(answer.number, &[$(answer.$word),*]) }
+    }};
 }
 
 /// Makes one call through the archive that exports it, or none if it is not linked.
@@ -38,10 +40,11 @@ pub fn perform(a: &mut Arena, call: &mut Call) -> Option<Reply> {
 
 /// The same where every vector of the arena and of the call has so many guard words at each end, which are not lent.
 pub fn perform_between(a: &mut Arena, call: &mut Call, guard: usize) -> Option<Reply> {
-    match call.level() {
-        1 => level_one(a, call, guard),
-        2 => level_two(a, call, guard),
-        _ => level_three(a, call, guard),
+    match call.archive() {
+        Archive::LevelOne => level_one(a, call, guard),
+        Archive::LevelTwo => level_two(a, call, guard),
+        Archive::LevelThree => level_three(a, call, guard),
+        Archive::SmallArenas => small_arenas(a, call, guard),
     }
 }
 
@@ -149,5 +152,21 @@ fn level_three(a: &mut Arena, call: &mut Call, guard: usize) -> Option<Reply> {
 /// Level Three is not linked.
 #[cfg(not(level_three))]
 fn level_three(_: &mut Arena, _: &mut Call, _: usize) -> Option<Reply> {
+    None
+}
+
+/// The call of the small arenas.
+#[cfg(small_arenas)]
+fn small_arenas(a: &mut Arena, call: &Call, guard: usize) -> Option<Reply> {
+    let Call::SmallArena(index) = call else {
+        return None;
+    };
+    let answer = result!(chain_arena_small_arena(a, guard, as_mut_ptr, *index));
+    Some(Reply::new(answer.number, &[answer.found, answer.length]))
+}
+
+/// The small arenas are not linked.
+#[cfg(not(small_arenas))]
+fn small_arenas(_: &mut Arena, _: &Call, _: usize) -> Option<Reply> {
     None
 }

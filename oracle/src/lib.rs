@@ -107,6 +107,40 @@ pub mod kind {
 
 pub use chain_arena::{OwnedArena as Arena, Ptr, Walk};
 
+/// What is sold, each with an archive of its own: the three levels, and the small arenas.
+#[derive(Clone, Copy, Debug, PartialEq, Eq)]
+pub enum Archive {
+    LevelOne,
+    LevelTwo,
+    LevelThree,
+    SmallArenas,
+}
+
+impl Archive {
+    /// All of them
+    pub const ALL: [Self; 4] = [Self::LevelOne, Self::LevelTwo, Self::LevelThree, Self::SmallArenas];
+
+    /// Its name.
+    pub fn name(self) -> &'static str {
+        match self {
+            Self::LevelOne => "level_one",
+            Self::LevelTwo => "level_two",
+            Self::LevelThree => "level_three",
+            Self::SmallArenas => "small_arenas",
+        }
+    }
+
+    /// Whether it is linked; Level One always is.
+    pub fn is_linked(self) -> bool {
+        match self {
+            Self::LevelOne => true,
+            Self::LevelTwo => cfg!(level_two),
+            Self::LevelThree => cfg!(level_three),
+            Self::SmallArenas => cfg!(small_arenas),
+        }
+    }
+}
+
 /// What the words of an arena say, where its columns and its header are as long as they must be.
 pub trait Reading {
     /// The stack length.
@@ -190,11 +224,13 @@ pub enum Call {
     DueCount(Ptr, u32, u32),
     /// The pointer, the window's two ends and the report
     DueEvents(Ptr, u32, u32, Vec<u16>),
+    /// The index; the arena is written into the columns and the header, whatever they hold
+    SmallArena(u32),
 }
 
 impl Call {
-    /// The level that the call is sold with, 1 to 3.
-    pub fn level(&self) -> usize {
+    /// The archive that the call is sold with.
+    pub fn archive(&self) -> Archive {
         match self {
             Self::Check
             | Self::GetLink(_)
@@ -205,14 +241,20 @@ impl Call {
             | Self::LineOfDot(_)
             | Self::LineDots(_)
             | Self::DueCount(..)
-            | Self::DueEvents(..) => 1,
-            Self::CompressWith(..) | Self::CompressCanonical(..) => 3,
-            _ => 2,
+            | Self::DueEvents(..) => Archive::LevelOne,
+            Self::CompressWith(..) | Self::CompressCanonical(..) => Archive::LevelThree,
+            Self::SmallArena(_) => Archive::SmallArenas,
+            _ => Archive::LevelTwo,
         }
     }
 
-    /// Whether the call is made on an arena.
+    /// Whether the call is made on an arena, which it checks first.
     pub fn takes_arena(&self) -> bool {
+        self.takes_columns() && !matches!(self, Self::SmallArena(_))
+    }
+
+    /// Whether columns and a header are lent to the call.
+    pub fn takes_columns(&self) -> bool {
         !matches!(self, Self::LineOfDot(_) | Self::LineDots(_))
     }
 }

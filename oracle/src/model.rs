@@ -1,10 +1,12 @@
 //! What docs/REFERENCE.md tells, as plain Rust, section by section: slow where that is plainer, and the judge of what the
 //! crate does not tell, as 12 from 13.
 
+use std::sync::OnceLock;
+
 use crate::header::{GENERATION, LINKS, ROOT, STACK};
 use crate::{Arena, COMMAND_WORDS, Call, LIMIT, Ptr, Reading, Reply, Walk, frame, kind, side};
 
-/// Makes one call, which begins with the check if it takes an arena (REFERENCE, Replies).
+/// Makes one call, which begins with the check if it is made on an arena (REFERENCE, Replies).
 pub fn perform(a: &mut Arena, call: &mut Call) -> Reply {
     let number = if call.takes_arena() { check(a) } else { 0 };
     if number != 0 {
@@ -34,6 +36,7 @@ pub fn perform(a: &mut Arena, call: &mut Call) -> Reply {
         Call::LineDots(line) => line_dots(*line),
         Call::DueCount(p, from, to) => due_count(a, *p, *from, *to),
         Call::DueEvents(p, from, to, report) => due_events(a, *p, *from, *to, report),
+        Call::SmallArena(index) => give(a, small_arenas(), *index),
     }
 }
 
@@ -50,13 +53,19 @@ fn refused(a: &Arena, number: u32, call: &Call) -> Reply {
 
 // REFERENCE, Check
 
-/// The number of the first rule that the arena breaks, 0 if it passes.
-pub fn check(a: &Arena) -> u32 {
+/// Whether the lengths of the columns and of the header are those of an arena, rule 1.
+fn is_shaped(a: &Arena) -> bool {
     let capacity = a.prev.len();
     let others = [a.next.len(), a.generation.len(), a.payload.len()];
-    if others != [capacity; 3] || capacity > LIMIT || a.header.len() != 4 {
+    others == [capacity; 3] && capacity <= LIMIT && a.header.len() == 4
+}
+
+/// The number of the first rule that the arena breaks, 0 if it passes.
+pub fn check(a: &Arena) -> u32 {
+    if !is_shaped(a) {
         return 1;
     }
+    let capacity = a.capacity();
     if a.current() < 2 {
         return 2;
     }
@@ -712,6 +721,71 @@ fn exchange_slots(a: &mut Arena, from: &mut [u16], i: usize, t: usize) {
         if a.is_link(s) {
             a.prev[s - 1] = exchanged(a.prev[s - 1] as usize) as u16;
             a.next[s - 1] = exchanged(a.next[s - 1] as usize) as u16;
+        }
+    }
+}
+
+// REFERENCE, Small arenas
+
+/// Writes the arena of an index into the first words of the columns and into the header, and answers that there is one and
+/// its stack length; past the last arena it answers 0 and 0. What the words were does not matter.
+pub fn give(a: &mut Arena, arenas: &[Arena], index: u32) -> Reply {
+    if !is_shaped(a) {
+        return Reply::number(1);
+    }
+    let Some(small) = arenas.get(index as usize) else {
+        return Reply::new(0, &[0, 0]);
+    };
+    let length = small.stack();
+    if a.capacity() < length {
+        return Reply::number(14);
+    }
+    a.prev[..length].copy_from_slice(&small.prev);
+    a.next[..length].copy_from_slice(&small.next);
+    a.generation[..length].copy_from_slice(&small.generation);
+    a.payload[..length].copy_from_slice(&small.payload);
+    a.header.copy_from_slice(&small.header);
+    Reply::new(0, &[1, length as u32])
+}
+
+/// All small arenas in their order. They are looked for once, among all tuples of the words that they can have.
+pub fn small_arenas() -> &'static [Arena] {
+    static ARENAS: OnceLock<Vec<Arena>> = OnceLock::new();
+    ARENAS.get_or_init(|| {
+        let mut arenas = Vec::new();
+        for length in 0..=SMALL {
+            for root in 0..=length as u32 {
+                let header = vec![length as u32, 0, root, 2];
+                each_tuple(&mut Arena { header, ..Arena::empty(length) }, 1, &mut arenas);
+            }
+        }
+        arenas
+    })
+}
+
+/// The longest stack of a small arena.
+pub const SMALL: usize = 3;
+
+/// Gives slot `s` and those behind it every generation, prev and next in order, and keeps what passes the check with some link
+/// count, if 0 stands where nobody reads.
+fn each_tuple(a: &mut Arena, s: usize, found: &mut Vec<Arena>) {
+    let length = a.stack();
+    if s > length {
+        for links in 0..=length as u32 {
+            a.header[LINKS] = links;
+            if check(a) == 0 && (1..=length).all(|s| a.is_link(s) || a.prev[s - 1] == 0) {
+                found.push(a.clone());
+            }
+        }
+        return;
+    }
+    for generation in [0, 2] {
+        (a.generation[s - 1], a.payload[s - 1]) = (generation, if generation == 0 { 0 } else { s as u32 });
+        for prev in 0..=length {
+            for next in 0..=length {
+                (a.prev[s - 1], a.next[s - 1]) = (prev as u16, next as u16);
+                each_tuple(a, s + 1, found);
+            }
         }
     }
 }

@@ -157,13 +157,20 @@ pub fn mixed(r: &mut Random, slots: usize) -> Arena {
 
 /// Columns of noise, generations among them, and a header of zeros.
 fn noise(r: &mut Random, capacity: usize) -> Arena {
-    let mut a = Arena::empty(capacity);
-    a.prev.fill_with(|| r.word() as u16);
-    a.next.fill_with(|| r.word() as u16);
-    a.generation.fill_with(|| r.word());
-    a.payload.fill_with(|| r.word());
-    a.header.fill(0);
-    a
+    Arena { header: vec![0; 4], ..noisy(r, [capacity, capacity, capacity, capacity, 0]) }
+}
+
+/// Columns and a header of these lengths with noise in every word.
+pub fn noisy(r: &mut Random, [prev, next, generation, payload, header]: [usize; 5]) -> Arena {
+    let narrow = |r: &mut Random, words| (0..words).map(|_| r.word() as u16).collect();
+    let wide = |r: &mut Random, words| (0..words).map(|_| r.word()).collect();
+    Arena {
+        prev: narrow(r, prev),
+        next: narrow(r, next),
+        generation: wide(r, generation),
+        payload: wide(r, payload),
+        header: wide(r, header),
+    }
 }
 
 /// Gives the links and the header generations: all alike, or mixed and around the largest.

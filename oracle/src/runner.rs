@@ -34,7 +34,7 @@ pub fn judged(
 }
 
 /// What a panic says.
-fn message(panic: &(dyn Any + Send)) -> String {
+pub fn message(panic: &(dyn Any + Send)) -> String {
     let text = panic.downcast_ref::<String>().map(String::as_str);
     text.or(panic.downcast_ref::<&str>().copied()).unwrap_or("nothing").to_string()
 }

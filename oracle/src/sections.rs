@@ -11,7 +11,7 @@ use crate::cases;
 use crate::compare::{Counts, Live, Mismatch, Outcome, Product, compare, model_outcome};
 use crate::random::{self, Near, Random, Style};
 use crate::runner::{Jobs, Judge};
-use crate::words::{DUE_COUNT, DUE_EVENTS};
+use crate::words::{DUE_COUNT, DUE_EVENTS, SMALL_ARENA};
 use crate::{Arena, COMMAND_WORDS, Call, LIMIT, Ptr, Reading, Walk, demand3, kind, model, payloads};
 
 /// The short form is for every run of the gate, the long one for once.
@@ -42,8 +42,8 @@ pub struct Section {
 /// The sections of calls that take no arena. The crate has nothing like them.
 pub const WITHOUT_CRATE: [&str; 1] = ["lines"];
 
-/// All sections, of all three levels.
-pub const SECTIONS: [Section; 25] = [
+/// All sections, of all that is sold.
+pub const SECTIONS: [Section; 27] = [
     Section {
         name: "tuples",
         what: "the check on every tuple of words of stack length 0 to 3, at two capacities",
@@ -55,6 +55,18 @@ pub const SECTIONS: [Section; 25] = [
         what: "the check on unequal columns, other headers, capacities around 65,535",
         numbers: &[1],
         jobs: |_| shapes(),
+    },
+    Section {
+        name: "small_calls",
+        what: "the call that writes a small arena: every index and numbers past them, on columns and headers of every length that matters",
+        numbers: &[0, 1, 14],
+        jobs: small_calls,
+    },
+    Section {
+        name: "small_arenas",
+        what: "each of the 90 arenas that this call gives, as it gives them and with room for one link: every call with every pair of pointers",
+        numbers: &[0, 12, 13, 14, 15, 16, 17, 18, 19],
+        jobs: |form| given_arenas(form.of(2, 3)),
     },
     Section {
         name: "reading",
@@ -197,6 +209,49 @@ pub const SECTIONS: [Section; 25] = [
 ];
 
 // Small arenas
+
+/// Every index on equal columns of a few words, in the long form on unequal ones too, and some indexes on all others: columns and
+/// headers of every length that matters, with noise in every word.
+fn small_calls(form: Form) -> Jobs {
+    let lengths = cases::lengths_to_write();
+    Jobs::new(lengths.len(), move |judge, r, number| {
+        let a = random::noisy(r, lengths[number]);
+        let equal = lengths[number][..4] == [a.capacity(); 4];
+        for index in cases::indexes(r, a.capacity() < LIMIT - 1 && (equal || form == Form::Long)) {
+            judge.hold_to(gives_an_arena, &a, &Call::SmallArena(index));
+        }
+    })
+}
+
+/// Compares the call that writes a small arena, and the check of what it gives, as a host lends it on: it must pass, also by the
+/// crate's own check.
+fn gives_an_arena(
+    product: Product,
+    before: &Arena,
+    call: &Call,
+    counts: &mut Counts,
+) -> Result<Outcome, Box<Mismatch>> {
+    let given = compare(product, before, call, counts)?;
+    if let (Call::SmallArena(_), [1, length, ..]) = (call, given.reply.words) {
+        let lent_on = cases::lent_on(given.arena.clone(), length as usize);
+        let number = compare(product, &lent_on, &Call::Check, counts)?.reply.number;
+        if number != 0 {
+            let said = Err(format!("the check refuses what it gives with {number}"));
+            return Err(Mismatch::new("export", before, call, Some(given), said));
+        }
+    }
+    Ok(given)
+}
+
+/// Every call on every small arena as the exported call gives it, and with room for one link; runs of every two commands on those
+/// of up to so many slots.
+fn given_arenas(slots_of_pairs: usize) -> Jobs {
+    let arenas = cases::given_arenas();
+    Jobs::new(arenas.len(), move |judge, _, number| {
+        let a = &arenas[number];
+        cases::every_call(a, slots_of_pairs, |call| _ = judge.hold(a, &call));
+    })
+}
 
 /// Every call that `each` finds on every arena up to a stack length, each in four dresses.
 fn every(longest: usize, each: fn(&Arena, &mut dyn FnMut(Call))) -> Jobs {
@@ -416,6 +471,8 @@ fn damage(arenas: usize) -> Jobs {
         for call in each_call(r, &a) {
             judge.hold(&a, &call);
         }
+        let call = call_of(SMALL_ARENA, r, &a, &[]);
+        judge.hold(&a, &call);
     })
 }
 

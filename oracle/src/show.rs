@@ -17,7 +17,7 @@ impl fmt::Display for Mismatch {
     fn fmt(&self, f: &mut fmt::Formatter<'_>) -> fmt::Result {
         writeln!(f, "the {} parts from the model", self.side)?;
         writeln!(f, "  {}", call_line(&self.call))?;
-        if self.call.takes_arena() {
+        if self.call.takes_columns() {
             write_arena(f, &self.before)?;
         }
         if let Some(model) = &self.model {

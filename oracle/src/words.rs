@@ -30,6 +30,7 @@ const CALLS: &[(&str, &[&str], &[&str])] = &[
     ("line_dots", &["line"], &["first", "last"]),
     ("due_count", WINDOW, &["count"]),
     ("due_events", WINDOW, &["count"]),
+    ("small_arena", &["index"], &["found", "length"]),
 ];
 
 const POINTER: &[&str] = &["slot", "generation"];
@@ -58,10 +59,12 @@ pub const LINE_DOTS: usize = 21;
 pub const DUE_COUNT: usize = 22;
 /// The code of a report of the links that are due.
 pub const DUE_EVENTS: usize = 23;
+/// The code of the call that writes a small arena.
+pub const SMALL_ARENA: usize = 24;
 
-/// The codes of the calls that take an arena.
+/// The codes of the calls that are made on an arena.
 pub fn calls_on_arenas() -> impl Iterator<Item = usize> + Clone {
-    (1..=CALLS_IN_ALL).filter(|code| !matches!(*code, LINE_OF_DOT | LINE_DOTS))
+    (1..=CALLS_IN_ALL).filter(|code| !matches!(*code, LINE_OF_DOT | LINE_DOTS | SMALL_ARENA))
 }
 
 impl Call {
@@ -91,6 +94,7 @@ impl Call {
             Self::LineDots(_) => LINE_DOTS,
             Self::DueCount(..) => DUE_COUNT,
             Self::DueEvents(..) => DUE_EVENTS,
+            Self::SmallArena(_) => SMALL_ARENA,
         }
     }
 
@@ -133,7 +137,8 @@ impl Call {
             | Self::CompressWith(word, _)
             | Self::CompressCanonical(word, _)
             | Self::LineOfDot(word)
-            | Self::LineDots(word) => vec![*word],
+            | Self::LineDots(word)
+            | Self::SmallArena(word) => vec![*word],
             Self::Run(commands, _) => commands.clone(),
             Self::Insert(kind, _, _, payload) => once(*kind).chain(pointers).chain(once(*payload)).collect(),
             Self::DueCount(_, from, to) | Self::DueEvents(_, from, to, _) => {
@@ -188,6 +193,7 @@ impl Call {
             LINE_DOTS => Self::LineDots(word(0)?),
             DUE_COUNT => Self::DueCount(ptr(0)?, word(2)?, word(3)?),
             DUE_EVENTS => Self::DueEvents(ptr(0)?, word(2)?, word(3)?, slots(lent)?),
+            SMALL_ARENA => Self::SmallArena(word(0)?),
             _ => return None,
         })
     }

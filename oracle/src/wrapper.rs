@@ -2,7 +2,7 @@
 
 use chain_arena::{Dot, Line, Link, LinkNoGen, Refusal, Window};
 
-use crate::{Arena, Call, Ptr, Reading, Reply, Walk};
+use crate::{Archive, Arena, Call, Ptr, Reading, Reply, Walk};
 #[cfg(level_two)]
 use crate::{COMMAND_WORDS, kind};
 
@@ -35,13 +35,14 @@ fn reply(answer: Result<(u32, Vec<u32>), Refusal>) -> Reply {
     }
 }
 
-/// Makes one call through the wrapper, or none if its level is not linked or it has no name for a kind of insertion or for a
+/// Makes one call through the wrapper, or none if its archive is not linked or it has no name for a kind of insertion or for a
 /// window.
 pub fn perform(a: &mut Arena, call: &mut Call) -> Option<Reply> {
-    match call.level() {
-        1 => level_one(a, call),
-        2 => level_two(a, call),
-        _ => level_three(a, call),
+    match call.archive() {
+        Archive::LevelOne => level_one(a, call),
+        Archive::LevelTwo => level_two(a, call),
+        Archive::LevelThree => level_three(a, call),
+        Archive::SmallArenas => small_arenas(a, call),
     }
 }
 
@@ -231,5 +232,36 @@ fn new_generation(reset: u32) -> chain_arena::NewGeneration {
 /// Level Three is not linked.
 #[cfg(not(level_three))]
 fn level_three(_: &mut Arena, _: &mut Call) -> Option<Reply> {
+    None
+}
+
+/// The call of the small arenas. What it lends on must be the first words of the columns, and the header.
+#[cfg(small_arenas)]
+fn small_arenas(a: &mut Arena, call: &Call) -> Option<Reply> {
+    let Call::SmallArena(index) = call else {
+        return None;
+    };
+    let given = a.as_arena_mut().small_arena(*index).map(|given| {
+        given.map(|given| Arena {
+            prev: given.prev.to_vec(),
+            next: given.next.to_vec(),
+            generation: given.generation.to_vec(),
+            payload: given.payload.to_vec(),
+            header: given.header.to_vec(),
+        })
+    });
+    Some(reply(given.map(|given| match given {
+        None => (0, vec![0, 0]),
+        Some(given) => {
+            let length = given.prev.len();
+            assert_eq!(given, crate::cases::lent_on(a.clone(), length));
+            (0, vec![1, length as u32])
+        }
+    })))
+}
+
+/// The small arenas are not linked.
+#[cfg(not(small_arenas))]
+fn small_arenas(_: &mut Arena, _: &Call) -> Option<Reply> {
     None
 }

@@ -1,12 +1,17 @@
-//! The small arenas are all there are, two that compress alike hold the same (REFERENCE, Chains), and the model's lines and
-//! windows are those that are counted dot by dot (REFERENCE, Frame clock).
+//! The small arenas are all there are, as the exported call gives them too (REFERENCE, Small arenas), two that compress alike hold
+//! the same (REFERENCE, Chains), and the model's lines and windows are those that are counted dot by dot (REFERENCE, Frame clock).
 
 use std::collections::{HashMap, HashSet};
+use std::sync::Mutex;
 
 use oracle::cases::{self, COUNTS};
-use oracle::compare::{Counts, compare, crate_outcome, crate_place, crate_text_found, model_outcome};
+use oracle::compare::{
+    Counts, compare, crate_number, crate_outcome, crate_place, crate_text_found, model_outcome,
+};
 use oracle::random::{self, Near, Random};
-use oracle::{Arena, Call, Reading, Reply, demand3, frame, guards, model, side};
+use oracle::runner::Run;
+use oracle::sections::{Form, SECTIONS};
+use oracle::{Arena, Call, LIMIT, Reading, Reply, demand3, exports, frame, guards, model, side};
 
 #[test]
 fn there_are_so_many() {
@@ -19,17 +24,101 @@ fn there_are_so_many() {
     }
 }
 
+/// What the exported call gives is what REFERENCE, Small arenas tells, the model's list and the enumeration put in order, and each
+/// arena passes the crate's own check.
+#[test]
+fn the_call_gives_every_small_arena_once_and_in_order() {
+    let given = cases::given();
+    assert_eq!(given, model::small_arenas());
+    let of_length = |length: usize| given.iter().filter(|a| a.stack() == length).count();
+    assert_eq!([0, 1, 2, 3].map(of_length), [1, 3, 13, 73]);
+    assert_eq!(given.len(), 90);
+    assert!(given.is_sorted_by(|one, other| cases::place(one) < cases::place(other)));
+    for a in given {
+        assert_eq!((model::check(a), exports::check(a)), (0, Reply::number(0)), "{a:?}");
+        assert!(crate_number(a) == Some(0) || !crate_text_found(), "{a:?}");
+        assert_eq!((a.capacity(), a.current()), (a.stack(), 2), "{a:?}");
+        for s in 1..=a.stack() {
+            let unread = (a.generation[s - 1], a.prev[s - 1], a.payload[s - 1]);
+            let link = (a.generation[s - 1], a.payload[s - 1]) == (2, s as u32);
+            assert!(if a.is_link(s) { link } else { unread == (0, 0, 0) }, "{a:?}");
+        }
+    }
+    for length in 0..=3 {
+        let mut enumerated = cases::enumerated(length);
+        enumerated.sort_by_key(cases::place);
+        assert_eq!(cases::small_arenas(length), enumerated);
+    }
+}
+
+/// The section of the call has every arena on columns of its own length and on longer ones, up to 65,535 words, 14 for each that
+/// has slots, and 1 for each column and for the header.
+#[test]
+fn the_cases_of_the_call_are_of_every_kind() {
+    let asked = Mutex::new(HashSet::new());
+    let product = |a: &Arena, call: &Call| {
+        let after = model_outcome(a, call);
+        if let Call::SmallArena(index) = call {
+            let lengths = [a.prev.len(), a.next.len(), a.generation.len(), a.payload.len(), a.header.len()];
+            let [found, length, ..] = after.reply.words;
+            let exact = found == 1 && a.capacity() == length as usize;
+            asked.lock().unwrap().insert((*index, lengths, after.reply.number, found, exact));
+        }
+        Some(Ok(after))
+    };
+    let section = SECTIONS.iter().find(|section| section.name == "small_calls").expect("a section");
+    let run = Run { product: &product, seed: 1, threads: 2, most: usize::MAX };
+    assert!(run.run(&(section.jobs)(Form::Short), |_| {}).1.is_none());
+    let asked = asked.into_inner().unwrap();
+    let some = |test: &dyn Fn(u32, [usize; 5], u32, u32, bool) -> bool| {
+        asked.iter().any(|&(index, lengths, number, found, exact)| test(index, lengths, number, found, exact))
+    };
+    for (index, small) in model::small_arenas().iter().enumerate() {
+        assert!(some(&|at, _, _, found, exact| at as usize == index && found == 1 && exact), "{index}");
+        assert!(some(&|at, _, _, found, exact| at as usize == index && found == 1 && !exact), "{index}");
+        let too_short = some(&|at, _, number, _, _| at as usize == index && number == 14);
+        assert_eq!(too_short, small.stack() > 0, "{index}");
+    }
+    for capacity in [LIMIT - 1, LIMIT] {
+        assert!(some(
+            &|_, lengths, _, found, _| lengths == [capacity, capacity, capacity, capacity, 4] && found == 1
+        ));
+    }
+    for capacity in [0, 3, 4, LIMIT] {
+        for column in 0..4 {
+            let mut lengths = [capacity, capacity, capacity, capacity, 4];
+            lengths[column] += 1;
+            assert!(some(&|_, of, number, _, _| of == lengths && number == 1), "{lengths:?}");
+        }
+    }
+    for header in [0, 1, 2, 3, 5, 6] {
+        assert!(some(&|_, lengths, number, _, _| lengths == [3, 3, 3, 3, header] && number == 1));
+    }
+    for index in (90..=100).chain([255, 256, 65_535, 65_536, 65_537, 1 << 31, u32::MAX]) {
+        assert!(some(&|at, lengths, number, found, _| at == index
+            && lengths[0] < 3
+            && (number, found) == (0, 0)));
+    }
+}
+
 #[test]
 fn the_tuples_that_pass_are_those_arenas() {
     let mut tuples = Vec::new();
     for length in 0..=3usize {
-        let (mut all, mut passed) = (0, 0);
+        let (mut all, mut passed, mut unread_0) = (0, 0, Vec::new());
         for slots in 0..cases::slot_tuples(length) {
             cases::each_tuple(length, 1, slots, |a| {
                 all += 1;
-                passed += usize::from(model::check(a) == 0);
+                if model::check(a) == 0 {
+                    passed += 1;
+                    unread_0.extend(
+                        (1..=length).all(|s| a.is_link(s) || a.prev[s - 1] == 0).then(|| cases::place(a)),
+                    );
+                }
             });
         }
+        unread_0.sort_unstable();
+        assert_eq!(unread_0, cases::small_arenas(length).iter().map(cases::place).collect::<Vec<_>>());
         // A free slot's prev is not read, so each value of it counts.
         let times = |a: &Arena| (length + 2).pow((length - a.links()) as u32);
         assert_eq!(passed, cases::small_arenas(length).iter().map(times).sum::<usize>());

@@ -1,6 +1,6 @@
 //! The safe wrapper answers what the exported calls answer: any call on whole and damaged arenas, every insertion and every
-//! window on every small arena, every line; and the view of a checked arena, which reads the columns itself, reads what the
-//! proved calls read.
+//! window on every small arena, every line, every small arena that the call gives; and the view of a checked arena, which reads
+//! the columns itself, reads what the proved calls read.
 
 use chain_arena::{Checked, Dot, Link, Ptr, Refusal, Window};
 use oracle::calls::{each_call, some_call};
@@ -36,6 +36,50 @@ fn any_line_and_any_window() {
     counts.say("lines and windows through the wrapper");
     for number in [0, 12, 14, 19] {
         assert!(counts.numbers[number] > 1_000, "{number} was hardly tried");
+    }
+}
+
+#[test]
+fn any_small_arena() {
+    let mut counts = Counts::default();
+    for (number, lengths) in cases::lengths_to_write().into_iter().enumerate() {
+        let mut r = Random::new(8_600_000 + number as u64);
+        let a = random::noisy(&mut r, lengths);
+        let equal = lengths[..4] == [a.capacity(); 4];
+        for index in cases::indexes(&mut r, equal && a.capacity() < LIMIT - 1) {
+            hold_call(&a, &Call::SmallArena(index), &mut counts);
+        }
+    }
+    counts.say("small arenas through the wrapper");
+    for number in [0, 1, 14] {
+        assert!(counts.numbers[number] > 200, "{number} was hardly tried");
+    }
+}
+
+/// The iterator gives the small arenas with words of their own, from either end and from anywhere.
+#[cfg(all(small_arenas, level_two))]
+#[test]
+fn the_iterator_over_the_small_arenas() {
+    let words = |small: &chain_arena::SmallArena| {
+        let a = small.arena();
+        let (prev, next) = (a.prev.to_vec(), a.next.to_vec());
+        let (generation, payload, header) = (a.generation.to_vec(), a.payload.to_vec(), a.header.to_vec());
+        Arena { prev, next, generation, payload, header }
+    };
+    let all = || chain_arena::small_arenas();
+    assert_eq!(all().map(|small| words(&small)).collect::<Vec<Arena>>(), model::small_arenas());
+    assert!(all().rev().map(|small| words(&small)).eq(model::small_arenas().iter().rev().cloned()));
+    assert_eq!((all().len(), all().count()), (90, 90));
+    assert!(
+        all()
+            .zip(0..)
+            .all(|(small, index)| small.index() == index && all().nth(index as usize) == Some(small))
+    );
+    for mut small in all() {
+        let before = words(&small);
+        let mut arena = small.arena_mut();
+        assert_eq!(arena.set_generation(7), Ok(()));
+        assert_eq!(words(&small), Arena { header: [&before.header[..3], &[7]].concat(), ..before });
     }
 }
 

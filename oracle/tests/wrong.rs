@@ -9,9 +9,9 @@ use oracle::random::{self, Near, Random};
 use oracle::runner::{Failure, Run};
 use oracle::sections::{Form, SECTIONS};
 use oracle::side::{NEXT, PREV};
-use oracle::words::{CALLS_IN_ALL, calls_on_arenas};
+use oracle::words::{CALLS_IN_ALL, SMALL_ARENA, calls_on_arenas};
 use oracle::{
-    Arena, COMMAND_WORDS, Call, Ptr, Reading, Reply, Walk, calls, cases, demand3, frame, kind, model,
+    Arena, COMMAND_WORDS, Call, LIMIT, Ptr, Reading, Reply, Walk, calls, cases, demand3, frame, kind, model,
     payloads, shrink,
 };
 
@@ -57,7 +57,10 @@ fn one_wrong_word_is_seen() {
             0 => random::with_broken_links(&mut r, stack, Near::Anywhere),
             _ => random::any_whole(&mut r, 8),
         };
-        let call = calls::some_call(&mut r, &a, &[]);
+        let call = match seed % 10 {
+            9 => calls::call_of(SMALL_ARENA, &mut r, &a, &[]),
+            _ => calls::some_call(&mut r, &a, &[]),
+        };
         let right = model_outcome(&a, &call);
         let passes = |outcome: &Outcome| {
             compare(&|_, _| Some(Ok(outcome.clone())), &a, &call, &mut Counts::default()).is_ok()
@@ -690,7 +693,134 @@ const WRONG: &[(&str, &str, Wrong)] = &[
     ("due_events", "a count with 14", |_, call, o| if let (Call::DueEvents(.., report), 14) = (call, o.reply.number) {
         o.reply.words[0] = report.len() as u32 + 1;
     }),
+    ("small_arena", "the check made first", |a, call, o| if let Call::SmallArena(_) = call {
+        let number = model::check(a);
+        if number != 0 {
+            *o = Outcome { reply: Reply::number(number), call: call.clone(), arena: a.clone() };
+        }
+    }),
+    ("small_arena", "an index of 8 bits", |a, call, o| another_index(a, call, o, |index| index & 0xff)),
+    ("small_arena", "an index of 16 bits", |a, call, o| another_index(a, call, o, |index| index & 0xffff)),
+    ("small_arena", "an index of 31 bits", |a, call, o| another_index(a, call, o, |index| index & 0x7fff_ffff)),
+    ("small_arena", "indexes that begin again", |a, call, o| another_index(a, call, o, |index| index % 90)),
+    ("small_arena", "indexes counted from 1", |a, call, o| another_index(a, call, o, |index| index.wrapping_sub(1))),
+    ("small_arena", "the last one past the last", |a, call, o| another_index(a, call, o, |index| index.min(89))),
+    ("small_arena", "found 1 past the last", |_, call, o| not_found(call, o, |o| o.reply.words[0] = 1)),
+    ("small_arena", "a length past the last", |_, call, o| not_found(call, o, |o| o.reply.words[1] = 3)),
+    ("small_arena", "the header cleared past the last", |_, call, o| not_found(call, o, |o| o.arena.header.fill(0))),
+    ("small_arena", "14 past the last", |a, call, o| not_found(call, o, |o| if a.capacity() < 3 { refuse(a, call, o, 14) })),
+    ("small_arena", "found 0 for an arena", |_, call, o| given(call, o, |_, o| o.reply.words[0] = 0)),
+    ("small_arena", "found and length exchanged", |_, call, o| given(call, o, |_, o| o.reply.words.swap(0, 1))),
+    ("small_arena", "a length one too large", |_, call, o| given(call, o, |_, o| o.reply.words[1] += 1)),
+    ("small_arena", "the link count for the length", |_, call, o| given(call, o, |_, o| o.reply.words[1] = o.arena.header[LINKS])),
+    ("small_arena", "the capacity for the length", |a, call, o| given(call, o, |_, o| o.reply.words[1] = a.capacity() as u32)),
+    ("small_arena", "the capacity for the stack length", |a, call, o| given(call, o, |_, o| o.arena.header[STACK] = a.capacity() as u32)),
+    ("small_arena", "the header not written", |a, call, o| given(call, o, |_, o| o.arena.header = a.header.clone())),
+    ("small_arena", "the payloads not written", |a, call, o| given(call, o, |_, o| o.arena.payload = a.payload.clone())),
+    ("small_arena", "words that nobody reads not written", |a, call, o| given(call, o, |length, o| {
+        for place in (0..length).filter(|&place| o.arena.generation[place] == 0) {
+            (o.arena.prev[place], o.arena.payload[place]) = (a.prev[place], a.payload[place]);
+        }
+    })),
+    ("small_arena", "a word past the length written", |_, call, o| given(call, o, |length, o| {
+        if let Some(word) = o.arena.payload.get_mut(length) {
+            *word = 0;
+        }
+    })),
+    ("small_arena", "three slots written always", |_, call, o| given(call, o, |length, o| {
+        let end = o.arena.capacity().min(3);
+        o.arena.prev[length..end].fill(0);
+        o.arena.next[length..end].fill(0);
+    })),
+    ("small_arena", "the rest of the columns zeroed", |_, call, o| given(call, o, |length, o| o.arena.generation[length..].fill(0))),
+    ("small_arena", "a slot named", |_, call, o| given(call, o, |length, o| o.reply.broken = length as u32)),
+    ("small_arena", "a side given", |_, call, o| given(call, o, |_, o| o.reply.side = 1)),
+    ("small_arena", "14 for columns of its own length", |a, call, o| given(call, o, |length, o| {
+        if a.capacity() == length {
+            refuse(a, call, o, 14);
+        }
+    })),
+    ("small_arena", "room for three slots asked for", |a, call, o| given(call, o, |_, o| if a.capacity() < 3 { refuse(a, call, o, 14) })),
+    ("small_arena", "1 for columns that are too short", |_, call, o| too_short(call, o, |o, _| o.reply.number = 1)),
+    ("small_arena", "columns that are too short taken for the end", |_, call, o| too_short(call, o, |o, _| o.reply.number = 0)),
+    ("small_arena", "found 1 with 14", |_, call, o| too_short(call, o, |o, _| o.reply.words[0] = 1)),
+    ("small_arena", "a length with 14", |_, call, o| too_short(call, o, |o, small| o.reply.words[1] = small.header[STACK])),
+    ("small_arena", "the header written with 14", |_, call, o| too_short(call, o, |o, small| o.arena.header = small.header.clone())),
+    ("small_arena", "what fits written with 14", |_, call, o| too_short(call, o, |o, small| {
+        let fits = o.arena.capacity();
+        o.arena.next.copy_from_slice(&small.next[..fits]);
+    })),
+    ("small_arena", "14 before 1", |_, call, o| misshapen(call, o, |o, small| if shortest(&o.arena) < small.stack() { o.reply.number = 14 })),
+    ("small_arena", "found 1 with 1", |_, call, o| misshapen(call, o, |o, _| o.reply.words[0] = 1)),
+    ("small_arena", "the header written with 1", |_, call, o| misshapen(call, o, |o, small| {
+        let words = o.arena.header.len().min(4);
+        o.arena.header[..words].copy_from_slice(&small.header[..words]);
+    })),
+    ("small_arena", "prev written with 1", |_, call, o| misshapen(call, o, |o, small| {
+        let words = o.arena.prev.len().min(small.stack());
+        o.arena.prev[..words].copy_from_slice(&small.prev[..words]);
+    })),
+    ("small_arena", "the end before 1", |_, call, o| if let (Call::SmallArena(90..), 1) = (call, o.reply.number) { o.reply.number = 0 }),
+    ("small_arena", "a header of three words taken", |a, call, o| by_lengths(a, call, o, |lengths| if lengths[4] == 3 { lengths[4] = 4 })),
+    ("small_arena", "a header of five words taken", |a, call, o| by_lengths(a, call, o, |lengths| if lengths[4] == 5 { lengths[4] = 4 })),
+    ("small_arena", "any header from four words on taken", |a, call, o| by_lengths(a, call, o, |lengths| lengths[4] = lengths[4].min(4))),
+    ("small_arena", "the length of next not looked at", |a, call, o| by_lengths(a, call, o, |lengths| lengths[1] = lengths[0])),
+    ("small_arena", "the length of the generations not looked at", |a, call, o| by_lengths(a, call, o, |lengths| lengths[2] = lengths[0])),
+    ("small_arena", "the length of the payloads not looked at", |a, call, o| by_lengths(a, call, o, |lengths| lengths[3] = lengths[0])),
+    ("small_arena", "longer columns cut to the shortest", |a, call, o| by_lengths(a, call, o, |lengths| {
+        let shortest = lengths[..4].iter().copied().min().unwrap_or(0);
+        lengths[..4].fill(shortest);
+    })),
 ];
+
+/// The arena of another index.
+fn another_index(a: &Arena, call: &Call, o: &mut Outcome, other: impl Fn(u32) -> u32) {
+    if let Call::SmallArena(index) = call {
+        instead(a, o, Call::SmallArena(other(*index)));
+    }
+}
+
+/// Changes the outcome of a small arena that is written: its stack length, the outcome.
+fn given(call: &Call, o: &mut Outcome, change: impl Fn(usize, &mut Outcome)) {
+    if let (Call::SmallArena(_), 0, [1, length, ..]) = (call, o.reply.number, o.reply.words) {
+        change(length as usize, o);
+    }
+}
+
+/// Changes the outcome of an index past the last small arena.
+fn not_found(call: &Call, o: &mut Outcome, change: impl Fn(&mut Outcome)) {
+    if let (Call::SmallArena(_), 0, [0, ..]) = (call, o.reply.number, o.reply.words) {
+        change(o);
+    }
+}
+
+/// Changes the outcome where the columns are too short for the small arena.
+fn too_short(call: &Call, o: &mut Outcome, change: impl Fn(&mut Outcome, &Arena)) {
+    if let (Call::SmallArena(index), 14) = (call, o.reply.number) {
+        change(o, &model::small_arenas()[*index as usize]);
+    }
+}
+
+/// Changes the outcome where the lengths are not those of an arena, but there is a small one of the index.
+fn misshapen(call: &Call, o: &mut Outcome, change: impl Fn(&mut Outcome, &Arena)) {
+    if let (Call::SmallArena(index @ 0..90), 1) = (call, o.reply.number) {
+        change(o, &model::small_arenas()[*index as usize]);
+    }
+}
+
+/// The length of the shortest column.
+fn shortest(a: &Arena) -> usize {
+    a.prev.len().min(a.next.len()).min(a.generation.len()).min(a.payload.len())
+}
+
+/// Answers as if columns and header had other lengths.
+fn by_lengths(a: &Arena, call: &Call, o: &mut Outcome, change: impl Fn(&mut [usize; 5])) {
+    if let (Call::SmallArena(_), 1) = (call, o.reply.number) {
+        let mut lengths = [a.prev.len(), a.next.len(), a.generation.len(), a.payload.len(), a.header.len()];
+        change(&mut lengths);
+        o.reply = model_outcome(&random::noisy(&mut Random::new(1), lengths), call).reply;
+    }
+}
 
 /// Answers another line for a dot of the frame.
 fn line_as(o: &mut Outcome, line: impl Fn(u32) -> u32) {
@@ -971,6 +1101,7 @@ fn sections_of(call: &str) -> &'static [&'static str] {
         "compress_with" | "compress_canonical" => &["compressions"],
         "line_of_dot" | "line_dots" => &["lines"],
         "due_count" | "due_events" => &["due", "windows", "small_broken"],
+        "small_arena" => &["small_calls"],
         _ => &["edits"],
     }
 }
@@ -985,6 +1116,21 @@ fn a_wrong_program_is_found_out() {
     for call in calls {
         let right = found_out(sections_of(call), 100, |_, _, _| {});
         assert!(right.is_none(), "a right program is taken for wrong: {right:?}");
+    }
+}
+
+/// Every call on an arena is asked of the arenas that the exported call gives: one that answers another number is found, whichever
+/// it is.
+#[test]
+fn a_call_that_is_wrong_about_given_arenas_is_found_out() {
+    for code in calls_on_arenas() {
+        let product = |a: &Arena, call: &Call| {
+            let mut outcome = model_outcome(a, call);
+            outcome.reply.number ^= u32::from(call.code() == code && a.stack() == 1);
+            Some(Ok(outcome))
+        };
+        let found = failure(&["small_arenas"], usize::MAX, 2, &product);
+        assert_eq!(found.expect("a wrong program").mismatch.call.code(), code);
     }
 }
 
@@ -1039,6 +1185,7 @@ fn random_sections_of(call: &str) -> &'static [&'static str] {
     match call {
         "check" => &["damage", "random_broken"],
         "due_count" | "due_events" => &["random_due", "damage"],
+        "small_arena" => &["damage", "small_calls"],
         _ => &["sequences", "damage"],
     }
 }
@@ -1216,6 +1363,184 @@ fn a_compression_that_looks_at_payloads_is_found_out() {
         });
     };
     assert!(found_out(&["payloads"], 2_500, by_dots).is_some());
+}
+
+/// A change of the list of the small arenas.
+type Listed = fn(&mut Vec<Arena>);
+
+/// Wrong lists of the small arenas.
+#[rustfmt::skip]
+const WRONG_LISTS: &[(&str, Listed)] = &[
+    ("two exchanged", |list| list.swap(40, 41)),
+    ("the first two exchanged", |list| list.swap(0, 1)),
+    ("the last two exchanged", |list| list.swap(88, 89)),
+    ("one left out, and the later ones moved up", |list| _ = list.remove(17)),
+    ("the first left out", |list| _ = list.remove(0)),
+    ("the last left out", |list| _ = list.pop()),
+    ("one twice, and the later ones moved down", |list| list.insert(60, list[60].clone())),
+    ("one twice, in the place of the next", |list| list[61] = list[60].clone()),
+    ("one twice, in the place of the last", |list| list[89] = list[20].clone()),
+    ("a 91st that repeats the last", |list| list.push(list[89].clone())),
+    ("a 91st that repeats the first", |list| list.push(list[0].clone())),
+    ("a 91st of four slots", |list| list.push(cases::enumerated(4).swap_remove(0))),
+    ("a 91st with another payload", |list| {
+        list.push(list[89].clone());
+        list[90].payload[2] = 4;
+    }),
+    ("another payload in one", |list| list[89].payload[2] = 2),
+    ("payloads counted from 0", |list| each_link(list, |a, place| a.payload[place] -= 1)),
+    ("no payloads", |list| each_link(list, |a, place| a.payload[place] = 0)),
+    ("a free slot with a payload in one", |list| list[3].payload[0] = 1),
+    ("free slots with payloads", |list| each_free(list, |a, place| a.payload[place] = place as u32 + 1)),
+    ("free slots with a prev", |list| each_free(list, |a, place| a.prev[place] = place as u16 + 1)),
+    ("free slots with the current generation", |list| each_free(list, |a, place| a.generation[place] = 2)),
+    ("a freelist that ends with 0", |list| each_free(list, |a, place| if a.next[place] as usize == place + 1 { a.next[place] = 0 })),
+    ("links of generation 3", |list| each_link(list, |a, place| a.generation[place] = 3)),
+    ("a current generation of 3", |list| list.iter_mut().for_each(|a| a.header[GENERATION] = 3)),
+    ("generation 3 throughout", |list| {
+        each_link(list, |a, place| a.generation[place] = 3);
+        list.iter_mut().for_each(|a| a.header[GENERATION] = 3);
+    }),
+    ("generation 5 and payloads of 100 more", |list| *list = (0..=3).flat_map(cases::small_arenas).collect()),
+    ("the stack length for the link count", |list| list.iter_mut().for_each(|a| a.header[LINKS] = a.header[STACK])),
+    ("a link count one too small in one", |list| list[89].header[LINKS] -= 1),
+    ("no root in one", |list| list[89].header[ROOT] = 0),
+    ("prev and next exchanged", |list| each_link(list, |a, place| std::mem::swap(&mut a.prev[place], &mut a.next[place]))),
+    ("one chain closed that is open", |list| {
+        let open = list.iter().position(|a| a.prev == [0, 1, 2]).expect("1 -> 2 -> 3");
+        (list[open].prev[0], list[open].next[2]) = (3, 1);
+    }),
+    ("the slots before the root", |list| list.sort_by_key(|a| {
+        let (length, root, slots) = cases::place(a);
+        (length, slots, root)
+    })),
+    ("the link count before the root", |list| list.sort_by_key(|a| (a.stack(), a.links(), cases::place(a)))),
+    ("the root before the stack length", |list| list.sort_by_key(|a| (a.root(), cases::place(a)))),
+    ("the last slot first", |list| list.sort_by_key(|a| {
+        let (length, root, mut slots) = cases::place(a);
+        slots.reverse();
+        (length, root, slots)
+    })),
+    ("next before the generation", |list| by_slots(list, |(generation, prev, next)| [next.into(), generation, prev.into()])),
+    ("next before prev", |list| by_slots(list, |(generation, prev, next)| [generation, next.into(), prev.into()])),
+    ("links before free slots", |list| by_slots(list, |(generation, prev, next)| [2 - generation, prev.into(), next.into()])),
+    ("column by column", |list| list.sort_by_key(|a| {
+        (a.stack(), a.root(), a.generation.clone(), a.prev.clone(), a.next.clone())
+    })),
+    ("falling roots", |list| list.sort_by_key(|a| (a.stack(), 3 - a.root(), cases::place(a)))),
+    ("falling stack lengths", |list| list.sort_by_key(|a| (3 - a.stack(), cases::place(a)))),
+    ("the order of the enumeration", |list| {
+        *list = (0..=3).flat_map(cases::enumerated).collect();
+        each_link(list, |a, place| (a.generation[place], a.payload[place]) = (2, place as u32 + 1));
+        list.iter_mut().for_each(|a| a.header[GENERATION] = 2);
+    }),
+];
+
+/// Changes every link of a list of arenas: the arena, the place in its columns.
+fn each_link(list: &mut [Arena], change: impl Fn(&mut Arena, usize)) {
+    for a in list {
+        a.link_slots().collect::<Vec<usize>>().into_iter().for_each(|s| change(a, s - 1));
+    }
+}
+
+/// Changes every free slot of a list of arenas: the arena, the place in its columns.
+fn each_free(list: &mut [Arena], change: impl Fn(&mut Arena, usize)) {
+    for a in list {
+        (0..a.stack())
+            .filter(|&place| !a.is_link(place + 1))
+            .collect::<Vec<usize>>()
+            .into_iter()
+            .for_each(|place| change(a, place));
+    }
+}
+
+/// Puts arenas in order by stack length and root, then slot by slot by other keys.
+fn by_slots(list: &mut [Arena], key: impl Fn((u32, u16, u16)) -> [u32; 3]) {
+    list.sort_by_key(|a| {
+        let (length, root, slots) = cases::place(a);
+        (length, root, slots.into_iter().map(&key).collect::<Vec<[u32; 3]>>())
+    });
+}
+
+/// A product that gives the small arenas of a list, and is right otherwise.
+fn giving(list: Vec<Arena>) -> impl Fn(&Arena, &Call) -> Option<Answer> {
+    move |a, call| {
+        let mut outcome = model_outcome(a, call);
+        if let Call::SmallArena(index) = call {
+            outcome.arena = a.clone();
+            outcome.reply = model::give(&mut outcome.arena, &list, *index);
+        }
+        Some(Ok(outcome))
+    }
+}
+
+/// A wrong list is found where sections take their arenas, so that none goes on with fewer or other ones, and by the section of the
+/// call, which shows one arena of it.
+#[test]
+fn a_wrong_list_of_small_arenas_is_found_out() {
+    let right = model::small_arenas().to_vec();
+    assert_eq!(cases::given_by(&giving(right.clone())).expect("the right list"), right);
+    assert!(failure(&["small_calls"], usize::MAX, 2, &giving(right.clone())).is_none());
+    for (what, change) in WRONG_LISTS {
+        let mut list = right.clone();
+        change(&mut list);
+        assert!(list != right, "{what}: it is the right list");
+        let product = giving(list);
+        assert!(cases::given_by(&product).is_err(), "{what}: sections take it for right");
+        let found = failure(&["small_calls"], usize::MAX, 1, &product);
+        let found = found.unwrap_or_else(|| panic!("{what}: passes for right"));
+        let shown = shrink::smallest(found, &product);
+        assert!(
+            matches!(shown.call, Call::SmallArena(0..=90)) && shown.before.capacity() <= 3,
+            "{what}: {shown}"
+        );
+    }
+}
+
+/// Wrong programs that need columns of about 65,535 words.
+#[rustfmt::skip]
+const WRONG_ABOUT_LARGE_COLUMNS: &[(&str, Wrong)] = &[
+    ("65,536 words taken", |a, call, o| of_capacity(a, call, o, LIMIT + 1, 0)),
+    ("65,537 words taken", |a, call, o| of_capacity(a, call, o, LIMIT + 2, 0)),
+    ("65,535 words refused", |a, call, o| of_capacity(a, call, o, LIMIT, 1)),
+    ("65,534 words refused", |a, call, o| of_capacity(a, call, o, LIMIT - 1, 1)),
+    ("14 before 1 for 65,536 words", |a, call, o| of_capacity(a, call, o, LIMIT + 1, 14)),
+    ("lengths of 16 bits", |a, call, o| by_lengths(a, call, o, |lengths| lengths.iter_mut().for_each(|length| *length &= 0xffff))),
+];
+
+/// Answers another number where columns of a length are lent, and 0 and 0 beside it.
+fn of_capacity(a: &Arena, call: &Call, o: &mut Outcome, capacity: usize, number: u32) {
+    if let Call::SmallArena(_) = call
+        && shortest(a) == capacity
+        && a.capacity() == capacity
+        && a.header.len() == 4
+    {
+        *o = Outcome { reply: Reply::number(number), call: call.clone(), arena: a.clone() };
+    }
+}
+
+#[test]
+fn a_program_wrong_about_large_columns_is_found_out() {
+    for (what, program) in WRONG_ABOUT_LARGE_COLUMNS {
+        let found = failure(&["small_calls"], usize::MAX, 2, &side(*program));
+        assert!(found.is_some(), "{what}: passes for right");
+    }
+}
+
+#[test]
+fn a_small_arena_is_shown_with_the_columns_that_were_lent() {
+    let shown =
+        found_out(&["small_calls"], 100, |_, call, o| given(call, o, |_, o| o.arena.header[GENERATION] = 3));
+    let expected = "\
+the export parts from the model
+  small_arena(index 0)
+    slot   prev   next  generation     payload
+  header: stack length 0, link count 0, root 0, generation 0
+  the model answers 0, found 1, length 0
+  the export answers 0, found 1, length 0
+  generation: model 2, export 3
+";
+    assert_eq!(shown.expect("a wrong program").to_string(), expected);
 }
 
 /// Wrong programs that need a slot over 255 or over 32,767.

@@ -8,6 +8,7 @@ pub mod Calls
 pub mod Walks
 pub mod Drains
 pub mod Clock
+pub mod SmallArenas
 pub mod Insertions
 pub mod Whole
 pub mod Meanings

@@ -17,9 +17,9 @@ use std::thread;
 use std::time::{Duration, Instant};
 
 use oracle::compare::{Counts, crate_text_found, export_outcome};
-use oracle::runner::Run;
+use oracle::runner::{self, Run};
 use oracle::sections::{Form, SECTIONS, Section, WITHOUT_CRATE};
-use oracle::{exports, guards, shrink};
+use oracle::{Archive, guards, shrink};
 
 /// What the command line asks for.
 struct Options {
@@ -39,8 +39,8 @@ fn main() -> ExitCode {
         }
     };
     println!("seed {}, {} threads", options.run.seed, options.run.threads);
-    for level in (1..=3).filter(|&level| !exports::linked(level)) {
-        println!("level {level} is not linked, and so its calls are not asked");
+    for archive in Archive::ALL.into_iter().filter(|archive| !archive.is_linked()) {
+        println!("{} is not linked, and so its calls are not asked", archive.name());
     }
     if !crate_text_found() {
         println!("the crate's files are not at hand, and so the crate is not asked");
@@ -93,10 +93,11 @@ fn options(mut words: impl Iterator<Item = String>) -> Result<Options, String> {
     }
 }
 
-/// Runs a section and prints its line, or answers what is wrong.
+/// Runs a section and prints its line, or answers what is wrong. To make its jobs can fail too: that is where small arenas are
+/// taken from the exported call.
 fn compare(section: &Section, options: &Options) -> Result<Counts, String> {
-    let mut progress = Progress::new(section.name);
-    let jobs = (section.jobs)(options.form);
+    let (mut progress, form) = (Progress::new(section.name), options.form);
+    let jobs = panic::catch_unwind(|| (section.jobs)(form)).map_err(|panic| runner::message(&*panic))?;
     let (counts, failure) = options.run.run(&jobs, |cases| progress.tick(cases));
     progress.clear();
     if let Some(failure) = failure {
@@ -110,7 +111,7 @@ fn compare(section: &Section, options: &Options) -> Result<Counts, String> {
 
 /// Holds to it that a whole section asked all sides, and met the numbers that it is for.
 fn complete(section: &Section, counts: Counts) -> Result<Counts, String> {
-    if (1..=3).all(exports::linked) && counts.with_exports < counts.cases {
+    if Archive::ALL.into_iter().all(Archive::is_linked) && counts.with_exports < counts.cases {
         return Err("an exported call was not asked".to_string());
     }
     if crate_text_found() && counts.with_crate == 0 && !WITHOUT_CRATE.contains(&section.name) {

@@ -13,7 +13,7 @@ use denote.Ref.{now}
 use denote.Triple.Both.{Both}
 use Rattle.definitions.specs.Columns.{at, put, count, firstOr, lastOr, Linked, slotsFrom, keep, written, settled}
 use Rattle.definitions.specs.Arena.{Arena, arena, capacity, capacityLimit, largestGeneration, stackLength, linkCount, root, current, allocated, linkSlots, freeSlots, isLink}
-use Rattle.definitions.specs.Check.{FailsAt, Neighbour, namesBack, neighboursFine, verdict, brokenSlots, sideAt, brokenSlot, brokenSide}
+use Rattle.definitions.specs.Check.{misshapen, FailsAt, Neighbour, namesBack, neighboursFine, verdict, brokenSlots, sideAt, brokenSlot, brokenSide}
 use Rattle.definitions.specs.Reply.{reply}
 use Rattle.definitions.specs.Walk.{Walk, startAt, stateOf, step, walked, walkFrom}
 use Rattle.definitions.specs.Read.{Pointer, pointer, stale}
@@ -136,6 +136,17 @@ pub reply-whole : (k : ℕ) (fs : List ℕ) (a : Arena) (l : List ℕ) →
     × (reply k fs a l .arena ≡ a)
     × (reply k fs a l .back ≡ l)
 reply-whole k fs a l = (refl, refl, refl, refl, refl, refl)
+
+-- rule 1 looks at lengths alone
+pub misshapen-whole : (limit : ℕ) (a : Arena) →
+    misshapen limit a
+    ≡ (not (eqb (length (a .header)) 4)
+    || ltb limit (length (a .prev))
+    || not (eqb (length (a .next)) (length (a .prev)))
+    || not (eqb (length (a .generation)) (length (a .prev)))
+    || not (eqb (length (a .payload)) (length (a .prev))))
+unfolding misshapen
+misshapen-whole limit a = refl
 
 -- ---- links and rule 11
 

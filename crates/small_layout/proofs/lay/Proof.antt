@@ -1,6 +1,7 @@
 -- `small_layout::lay` meets its contract: each column gets its words, and the header its own. Assumes nothing.
 use native.Mathlib.Omega.{arith}
 use borrow.Author.Needs.{needs}
+use Rattle.definitions.specs.Arena.{arena}
 use Rattle.all_small.proofs.Packed.{unpacked}
 use Rattle.small_layout.proofs.Laying.{arena-laid}
 use Rattle.small_layout.proofs.lay.Statement.{statement}
@@ -42,7 +43,8 @@ returns c =
     let nexts : tie.After-lay-links2 = search in
     let prevs : tie.After-lay-links = search in
     let told : tie.After-word-of = search in
-    arena-laid _ _ (told .word-of .ensures) (prevs .lay-links .ensures) (nexts .lay-links2 .ensures) (generations .lay-words .ensures) (payloads .lay-words2 .ensures) (header .lay-header .ensures)
+    let start : tie.Start = search in
+    arena-laid (start .args .packed) (arena (start .args .prev .now) (start .args .next .now) (start .args .generation .now) (start .args .payload .now) (start .args .header .now)) (told .word-of .ensures) (prevs .lay-links .ensures) (nexts .lay-links2 .ensures) (generations .lay-words .ensures) (payloads .lay-words2 .ensures) (header .lay-header .ensures)
 
 pub lay-spec : {M : Type 1} → statement M
 lay-spec =

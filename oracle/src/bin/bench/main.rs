@@ -18,7 +18,7 @@ use chain_arena::{Dot, Line};
 use oracle::calls::{self, Tide};
 use oracle::compare::{Outcome, crate_text_found, model_outcome};
 use oracle::random::{self, Random, Style};
-use oracle::{Arena, COMMAND_WORDS, Call, LIMIT, Ptr, Reading, exports, frame, model, side};
+use oracle::{Archive, Arena, COMMAND_WORDS, Call, LIMIT, Ptr, Reading, exports, frame, model, side};
 
 use before::Columns;
 
@@ -33,27 +33,28 @@ fn main() {
     if !crate_text_found() {
         println!("The crate's files are not at hand: the live comparison was skipped.");
     }
-    let sections: [(&str, usize, fn()); 10] = [
-        ("check", 1, check_section),
-        ("before", 1, before_section),
-        ("read", 1, read_section),
-        ("due", 1, due_section),
-        ("run", 2, run_section),
-        ("grow", 2, grow_section),
-        ("drain", 2, drain_section),
-        ("canonical", 3, canonical_section),
-        ("linear", 3, linear_section),
-        ("order", 3, order_section),
+    let sections: [(&str, Archive, fn()); 11] = [
+        ("check", Archive::LevelOne, check_section),
+        ("before", Archive::LevelOne, before_section),
+        ("read", Archive::LevelOne, read_section),
+        ("due", Archive::LevelOne, due_section),
+        ("run", Archive::LevelTwo, run_section),
+        ("grow", Archive::LevelTwo, grow_section),
+        ("drain", Archive::LevelTwo, drain_section),
+        ("canonical", Archive::LevelThree, canonical_section),
+        ("linear", Archive::LevelThree, linear_section),
+        ("order", Archive::LevelThree, order_section),
+        ("small", Archive::SmallArenas, small_section),
     ];
     let chosen: Vec<String> = env::args().skip(1).collect();
-    for (name, level, section) in sections {
+    for (name, archive, section) in sections {
         if !chosen.is_empty() && !chosen.iter().any(|word| name.starts_with(word.as_str())) {
             continue;
         }
-        if exports::linked(level) {
+        if archive.is_linked() {
             section();
         } else {
-            println!("{name}: level {level} is not linked, so it was not measured");
+            println!("{name}: {} is not linked, so it was not measured", archive.name());
         }
     }
 }
@@ -413,6 +414,50 @@ fn order_section() {
     }
 }
 
+/// All small arenas: each written into the same columns by the exported call, and by the wrapper's iterator, which gives each
+/// words of its own. Beside them is a plain loop that copies the same words out of a list of ready arenas.
+#[cfg(small_arenas)]
+fn small_section() {
+    println!("small: all small arenas in order, nanoseconds an arena; a plain loop that copies ready ones");
+    let ready = model::small_arenas();
+    let columns = &RefCell::new(Arena::empty(model::SMALL));
+    let copied = || -> Option<Side> {
+        Some(Box::new(again(move || {
+            let mut columns = columns.borrow_mut();
+            for small in black_box(ready) {
+                copy(small, black_box(&mut columns));
+            }
+        })))
+    };
+    let written: Side = Box::new(again(|| {
+        let mut columns = columns.borrow_mut();
+        for index in 0..ready.len() as u32 {
+            let mut columns = black_box(&mut *columns).as_arena_mut();
+            assert!(matches!(columns.small_arena(black_box(index)), Ok(Some(_))));
+        }
+    }));
+    let given: Side = Box::new(again(|| chain_arena::small_arenas().for_each(|small| _ = black_box(small))));
+    for (kind, ours) in [("the call", written), ("the wrapper's iterator", given)] {
+        let medians = measure(ROUNDS, vec![Some(ours), copied()]);
+        row_beside(&["copy"], model::SMALL, kind, ready.len(), &medians);
+    }
+}
+
+/// Copies a ready arena into the first words of columns, and into a header.
+#[cfg(small_arenas)]
+fn copy(ready: &Arena, columns: &mut Arena) {
+    let length = ready.prev.len();
+    columns.prev[..length].copy_from_slice(&ready.prev);
+    columns.next[..length].copy_from_slice(&ready.next);
+    columns.generation[..length].copy_from_slice(&ready.generation);
+    columns.payload[..length].copy_from_slice(&ready.payload);
+    columns.header.copy_from_slice(&ready.header);
+}
+
+/// The small arenas are not linked.
+#[cfg(not(small_arenas))]
+fn small_section() {}
+
 // The arenas.
 
 /// Arenas of so many slots, all in the stack, by kind, to be checked.
@@ -595,13 +640,17 @@ fn landings_row(slots: usize, kind: &str, items: usize, medians: &Medians) {
     println!("  {slots:>6}  {kind:<28} now {}  before {}  ratio {ratio:.2}", shown(now), shown(before));
 }
 
-/// Prints one row: each side by the item, and the ratios.
+/// Prints one row beside the crate, with its check before it and without.
 fn row(slots: usize, kind: &str, items: usize, medians: &Medians) {
+    row_beside(&["crate", "without"], slots, kind, items, medians);
+}
+
+/// Prints one row: each side by the item, and the ratios to the named other sides.
+fn row_beside(names: &[&str], slots: usize, kind: &str, items: usize, medians: &Medians) {
     let digits = |number: f64| if number < 0.01 { 4 } else { 2 };
     let shown = |number: Option<f64>| number.map_or("-".to_string(), |n| format!("{n:.*}", digits(n)));
     let each = |nanos: Option<f64>| shown(nanos.map(|nanos| nanos / items as f64));
     print!("  {slots:>6}  {kind:<28} ours {:>6}", each(medians.nanos[0]));
-    let names = ["crate", "without"];
     for ((name, nanos), ratio) in names.iter().zip(&medians.nanos[1..]).zip(&medians.ratios) {
         print!("  {name} {:>6}  ratio {:>6}", each(*nanos), shown(*ratio));
     }
