@@ -24,7 +24,7 @@
  *
  * The numbers (Numbers). A constant CHAIN_ARENA_REFUSED_.. stands below for each refusal, CHAIN_ARENA_DONE for 0 and
  * CHAIN_ARENA_OVERFLOWED for 100.
- *  number  name                  of every call, and from 1 on of every call on an arena; one more is named below the meaning:
+ *  number  name                  of every call, and from 1 on of calls on an arena; a call named below a meaning gives it too:
  *       0  DONE                  nothing is wrong: done
  *       1  SHAPE                 two columns differ in length or are longer than 65,535, or the header has not four words
  *                                  small_arena
@@ -487,14 +487,14 @@ chain_arena_plain_result chain_arena_compress_canonical(
 
 /* Small arenas: libsmall_arenas.a */
 
-/* Writes the small arena of an index, 0 to 89, and answers found 1 and its stack length. The first length words of each column
- * and the header are the arena's: lend them on, each count being length. Further words of the columns stay. With an index over
- * 89 found is 0 and nothing is written. It is no call on an arena: it looks at lengths alone, and at no word that was there.
- * Small are the arenas that pass the check with stack length 0 to 3 and a capacity equal to it, where each link and the header
- * have generation 2, each link's payload is its slot, and every word that nobody reads is 0. They come by stack length, then
- * by root, then slot by slot: by generation, prev, next.
+/* Writes the small arena of an index, 0 to 89, at the front of the columns and into the header: found is 1, and length is its
+ * stack length. Lend the header and the columns on with length as their count; the words behind stay. With an index over 89
+ * found is 0 and nothing is written. It is no call on an arena: no word that was there is looked at.
+ * A small arena passes the check; its stack has at most three slots and fills the columns; its links and its header have
+ * generation 2; the payload of a link is its slot; and what nobody reads is 0. The shorter stack comes first, then the lower
+ * root; after that the words of slot 1, 2 and 3 decide, of each slot generation before prev and prev before next.
  * 1: two columns differ in length or are longer than 65,535, or the header has not four words; 14: there is such an arena, and
- * the columns are shorter than its stack length. On a refusal found and length are 0 and nothing is written. (Small arenas) */
+ * its stack is longer than the columns. (Small arenas) */
 chain_arena_small_arena_result chain_arena_small_arena(
     uint16_t *prev, size_t prev_len,
     uint16_t *next, size_t next_len,

@@ -3,7 +3,7 @@
 use std::collections::BTreeMap;
 use std::ffi::OsStr;
 
-use chain_arena::{Arena, OwnedArena, SmallArena, small_arenas};
+use chain_arena::{OwnedArena, SmallArena, small_arenas};
 
 use crate::Shown;
 use crate::by_slot::BySlot;
@@ -31,7 +31,7 @@ fn list() -> String {
     let mut text = String::new();
     let mut counts = BTreeMap::new();
     for small in small_arenas() {
-        let arena = owned(&small);
+        let arena = OwnedArena::from(small.as_arena());
         text += &format!("{:>4}  {}\n", small.index(), held(&arena));
         *counts.entry(arena.header().stack_length).or_insert(0) += 1;
     }
@@ -43,7 +43,8 @@ fn list() -> String {
 
 /// A small arena as a text, and to draw.
 fn shown(small: &SmallArena) -> Shown {
-    let judged = Judged::new(format!("small arena {}", small.index()), owned(small));
+    let name = format!("small arena {}", small.index());
+    let judged = Judged::new(name, OwnedArena::from(small.as_arena()));
     let text = format!("# {}: {}\n{}", judged.name, held(&judged.arena), format::text(&judged.arena));
     Shown { text, ..judged.show() }
 }
@@ -56,18 +57,6 @@ fn held(arena: &OwnedArena) -> String {
     if rows.is_empty() { "nothing".to_string() } else { rows.join(", ") }
 }
 
-/// A small arena as all arenas are held here.
-fn owned(small: &SmallArena) -> OwnedArena {
-    let Arena { prev, next, generation, payload, header } = small.arena();
-    OwnedArena {
-        prev: prev.to_vec(),
-        next: next.to_vec(),
-        generation: generation.to_vec(),
-        payload: payload.to_vec(),
-        header: header.to_vec(),
-    }
-}
-
 #[cfg(test)]
 mod tests {
     use super::*;
@@ -77,7 +66,7 @@ mod tests {
         for given in small_arenas() {
             let shown = small(Some(OsStr::new(&given.index().to_string()))).unwrap();
             let read = Judged::parse(String::new(), shown.text.as_bytes()).unwrap();
-            let (arena, words) = (given.arena(), read.arena.as_arena());
+            let (arena, words) = (given.as_arena(), read.arena.as_arena());
             assert_eq!((words.prev, words.next), (arena.prev, arena.next), "{}", shown.text);
             assert_eq!(
                 (words.generation, words.payload),

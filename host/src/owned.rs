@@ -42,6 +42,28 @@ impl Default for OwnedArena {
     }
 }
 
+/// The words of a lent arena, copied. Like the arena it may be broken.
+///
+/// ```
+/// use chain_arena::{Arena, OwnedArena};
+///
+/// let lent = Arena { prev: &[0], next: &[0], generation: &[5], payload: &[7], header: &[1, 1, 0, 5] };
+/// let mut owned = OwnedArena::from(lent);
+/// owned.payload[0] = 8;
+/// assert_eq!((lent.payload, owned.as_arena().payload), (&[7][..], &[8][..]));
+/// ```
+impl From<Arena<'_>> for OwnedArena {
+    fn from(arena: Arena<'_>) -> Self {
+        Self {
+            prev: arena.prev.to_vec(),
+            next: arena.next.to_vec(),
+            generation: arena.generation.to_vec(),
+            payload: arena.payload.to_vec(),
+            header: arena.header.to_vec(),
+        }
+    }
+}
+
 impl OwnedArena {
     /// An arena of no links that has room for `capacity` slots. From 65,536 on the check refuses it.
     #[must_use]

@@ -9,11 +9,16 @@ use crate::{Arena, ArenaMut, Header, Refusal, Slot};
 /// The longest stack that a small arena has.
 const LONGEST: usize = 3;
 
-/// Every small arena, in order, as the proved call writes them: 1, 3, 13 and 73 of stack length 0, 1, 2 and 3.
+/// More than there can be small arenas. Stack length, root, three prevs and three nexts are at most 3, two bits each, and three
+/// generations are 0 or 2, one bit each: so 19 bits tell one from all others. A right archive ends the search long before.
+const MOST: u32 = 1 << 19;
+
+/// Every small arena, in order, as the proved call writes them: 1 with no slot, 3 with one, 13 with two and 73 with three.
 ///
-/// Small are the arenas that pass the check with stack length 0 to 3 and a capacity equal to it, where each link and the header
-/// have generation 2, each link's payload is its slot, and every word that nobody reads is 0. They come by stack length, then by
-/// root, then slot by slot: by generation, prev, next. It is proved that none is missing and that none comes twice.
+/// A small arena passes the check; its stack has at most three slots and fills the columns; its links and its header have
+/// generation 2; the payload of a link is its slot; and what nobody reads is 0. The shorter stack comes first, then the lower
+/// root; after that the words of slot 1, 2 and 3 decide, of each slot generation before prev and prev before next. By proof the
+/// list has every small arena, each at one place.
 ///
 /// ```
 /// use chain_arena::small_arenas;
@@ -21,18 +26,18 @@ const LONGEST: usize = 3;
 /// assert_eq!(small_arenas().len(), 90);
 /// for small in small_arenas() {
 ///     # #[cfg(feature = "level-one")]
-///     assert_eq!(small.arena().check(), Ok(()), "{small:?}");
+///     assert_eq!(small.as_arena().check(), Ok(()), "{small:?}");
 ///     # #[cfg(feature = "level-two")] {
 ///     let mut edited = small.clone(); // words of its own
-///     edited.arena_mut().set_generation(3)?;
-///     assert_eq!((edited.index(), edited.arena().header[3]), (small.index(), 3));
+///     edited.as_arena_mut().set_generation(3)?;
+///     assert_eq!((edited.index(), edited.as_arena().header[3]), (small.index(), 3));
 ///     # }
 /// }
 /// # Ok::<(), chain_arena::Refusal>(())
 /// ```
 pub fn small_arenas() -> SmallArenas {
-    // The call tells where they end.
-    let end = (0..).find(|&index| SmallArena::new(index).is_none()).unwrap_or_default();
+    // The call tells where they end. Only an archive that is wrong tells no end, and then there are too many for any test.
+    let end = (0..MOST).find(|&index| SmallArena::new(index).is_none()).unwrap_or(MOST);
     SmallArenas { indices: 0..end }
 }
 
@@ -45,16 +50,16 @@ pub fn small_arenas() -> SmallArenas {
 /// use chain_arena::{Header, SmallArena};
 ///
 /// let mut small = SmallArena::new(6).unwrap(); // 1 -> 2
-/// assert_eq!((small.arena().prev, small.arena().next), (&[0, 1][..], &[2, 0][..]));
-/// assert_eq!((small.arena().generation, small.arena().payload), (&[2, 2][..], &[1, 2][..]));
+/// assert_eq!((small.as_arena().prev, small.as_arena().next), (&[0, 1][..], &[2, 0][..]));
+/// assert_eq!((small.as_arena().generation, small.as_arena().payload), (&[2, 2][..], &[1, 2][..]));
 /// # #[cfg(feature = "level-two")] {
 /// use chain_arena::Ptr;
 ///
-/// small.arena_mut().remove(Ptr { slot: 1, generation: 2 })?;
+/// small.as_arena_mut().remove(Ptr { slot: 1, generation: 2 })?;
 /// let header = Header { stack_length: 2, link_count: 1, root: 1, generation: 3 };
-/// assert_eq!(Header::of(small.arena().header), Some(header));
+/// assert_eq!(Header::of(small.as_arena().header), Some(header));
 /// # }
-/// # let _ = Header::of(small.arena_mut().header);
+/// # let _ = Header::of(small.as_arena_mut().header);
 /// # Ok::<(), chain_arena::Refusal>(())
 /// ```
 #[derive(Clone, PartialEq, Eq, Hash)]
@@ -82,7 +87,7 @@ impl SmallArena {
             header: [0; Header::WORDS],
         };
         // The columns are long enough for every small arena, so that none is refused.
-        let length = small.arena_mut().small_arena(index).ok()??.prev.len();
+        let length = small.as_arena_mut().small_arena(index).ok()??.prev.len();
         Some(Self { length, ..small })
     }
 
@@ -94,7 +99,7 @@ impl SmallArena {
 
     /// The arena to read.
     #[must_use]
-    pub fn arena(&self) -> Arena<'_> {
+    pub fn as_arena(&self) -> Arena<'_> {
         Arena {
             prev: first(&self.prev, self.length),
             next: first(&self.next, self.length),
@@ -106,7 +111,7 @@ impl SmallArena {
 
     /// The arena to edit and to compress.
     #[must_use]
-    pub fn arena_mut(&mut self) -> ArenaMut<'_> {
+    pub fn as_arena_mut(&mut self) -> ArenaMut<'_> {
         ArenaMut {
             prev: first_mut(&mut self.prev, self.length),
             next: first_mut(&mut self.next, self.length),
@@ -120,7 +125,7 @@ impl SmallArena {
 /// Its index and its words.
 impl fmt::Debug for SmallArena {
     fn fmt(&self, f: &mut fmt::Formatter<'_>) -> fmt::Result {
-        f.debug_struct("SmallArena").field("index", &self.index).field("arena", &self.arena()).finish()
+        f.debug_struct("SmallArena").field("index", &self.index).field("arena", &self.as_arena()).finish()
     }
 }
 
@@ -143,7 +148,7 @@ fn first_mut<T>(words: &mut [T], count: usize) -> &mut [T] {
 /// use chain_arena::small_arenas;
 ///
 /// let mut of_two = small_arenas().skip(4).take(13); // of stack length 2
-/// assert!(of_two.all(|small| small.arena().prev.len() == 2));
+/// assert!(of_two.all(|small| small.as_arena().prev.len() == 2));
 /// assert_eq!(small_arenas().nth(89), small_arenas().next_back());
 /// assert_eq!(small_arenas().nth(90), None);
 /// ```

@@ -131,7 +131,7 @@ fn the_words_and_the_number_of_small_arenas_come_from_the_proved_call() {
     }
     let source = fs::read_to_string(Path::new(env!("CARGO_MANIFEST_DIR")).join("src/small.rs")).unwrap();
     let code: String = source.lines().filter(|line| !line.trim_start().starts_with("//")).collect();
-    assert!(code.contains("small.arena_mut().small_arena(index)"));
+    assert!(code.contains("small.as_arena_mut().small_arena(index)"));
     for count in ["89", "90"] {
         assert!(!code.contains(count), "the call alone tells how many there are");
     }

@@ -81,17 +81,6 @@ fn key(a: Arena<'_>) -> Vec<u32> {
     [a.header[0], a.header[2]].into_iter().chain(slots).collect()
 }
 
-/// A lent arena's words, owned.
-fn owned(a: Arena<'_>) -> OwnedArena {
-    OwnedArena {
-        prev: a.prev.to_vec(),
-        next: a.next.to_vec(),
-        generation: a.generation.to_vec(),
-        payload: a.payload.to_vec(),
-        header: a.header.to_vec(),
-    }
-}
-
 /// How many words before and behind what is lent must stay.
 const GUARD: usize = 2;
 
@@ -103,6 +92,31 @@ fn noise(length: usize, header: usize) -> OwnedArena {
     let slots = |first: u32| words(first, length).into_iter().map(|word| (word >> 7) as u16).collect();
     let [generation, payload] = [300_000, 400_000].map(|first| words(first, length));
     OwnedArena { prev: slots(0), next: slots(100_000), generation, payload, header: words(500_000, header) }
+}
+
+/// Words that may stand there before the call, as many as of `noise`: those, each word 0, and each word the largest.
+fn olds(length: usize, header: usize) -> [OwnedArena; 3] {
+    let all = |slot: u16, word: u32| {
+        let mut words = noise(length, header);
+        words.prev.fill(slot);
+        words.next.fill(slot);
+        words.generation.fill(word);
+        words.payload.fill(word);
+        words.header.fill(word);
+        words
+    };
+    [noise(length, header), all(0, 0), all(u16::MAX, u32::MAX)]
+}
+
+/// Words with an arena laid into them behind the guard.
+fn laid(words: &OwnedArena, arena: &OwnedArena) -> OwnedArena {
+    let (mut laid, length) = (words.clone(), arena.prev.len());
+    laid.prev[GUARD..GUARD + length].copy_from_slice(&arena.prev);
+    laid.next[GUARD..GUARD + length].copy_from_slice(&arena.next);
+    laid.generation[GUARD..GUARD + length].copy_from_slice(&arena.generation);
+    laid.payload[GUARD..GUARD + length].copy_from_slice(&arena.payload);
+    laid.header[GUARD..GUARD + 4].copy_from_slice(&arena.header);
+    laid
 }
 
 /// Lends so many words of each column, and of the header, behind the guard.
@@ -187,14 +201,14 @@ fn all_of_them_come_in_order_each_with_its_index() {
     let all: Vec<SmallArena> = small_arenas().collect();
     assert_eq!(all.len(), TRIED.len());
     for ((index, small), tried) in (0..).zip(&all).zip(TRIED.iter()) {
-        assert_eq!(owned(small.arena()), *tried, "{index}");
+        assert_eq!(OwnedArena::from(small.as_arena()), *tried, "{index}");
         assert_eq!(small.index(), index);
         assert_eq!(SmallArena::new(index).as_ref(), Some(small));
-        assert!(is_small(small.arena()));
+        assert!(is_small(small.as_arena()));
         #[cfg(feature = "level-one")]
-        assert_eq!(small.arena().check(), Ok(()), "{small:?}");
+        assert_eq!(small.as_arena().check(), Ok(()), "{small:?}");
         let mut own = small.clone();
-        assert_eq!(owned(own.arena_mut().as_arena()), *tried);
+        assert_eq!(OwnedArena::from(own.as_arena_mut().as_arena()), *tried);
         let words = format!("SmallArena {{ index: {index}, arena: {:?} }}", tried.as_arena());
         assert_eq!(format!("{small:?}"), words);
     }
@@ -209,24 +223,24 @@ fn the_call_writes_the_arena_and_further_words_stay() {
         let length = tried.prev.len();
         for room in [0, 1, 4] {
             let lengths = [length + room, length + room, length + room, length + room, 4];
-            let mut expected = noise(length + room, 4);
-            expected.prev[GUARD..GUARD + length].copy_from_slice(&tried.prev);
-            expected.next[GUARD..GUARD + length].copy_from_slice(&tried.next);
-            expected.generation[GUARD..GUARD + length].copy_from_slice(&tried.generation);
-            expected.payload[GUARD..GUARD + length].copy_from_slice(&tried.payload);
-            expected.header[GUARD..GUARD + 4].copy_from_slice(&tried.header);
-            let mut words = noise(length + room, 4);
-            let answer = called(&mut lent(&mut words, lengths), index);
-            assert_eq!(answer, SmallArenaResult { number: 0, found: 1, length: length as u32 });
-            assert_eq!(words, expected, "{index} with room for {room}");
-            let mut words = noise(length + room, 4);
-            let mut columns = lent(&mut words, lengths);
-            let small = columns.small_arena(index).unwrap().unwrap();
-            assert_eq!(owned(small.as_arena()), *tried, "what is lent on");
-            // with room above the stack it is an arena too
-            #[cfg(feature = "level-one")]
-            assert_eq!(columns.as_arena().check(), Ok(()));
-            assert_eq!(words, expected, "{index} with room for {room}");
+            let mut olds = olds(length + room, 4).to_vec();
+            // this very arena, and the one before it, whose stack is no longer
+            let there = TRIED[..=index as usize].iter().rev().take(2);
+            olds.extend(there.map(|arena| laid(&olds[0], arena)).collect::<Vec<_>>());
+            for old in olds {
+                let (mut words, expected) = (old.clone(), laid(&old, tried));
+                let answer = called(&mut lent(&mut words, lengths), index);
+                assert_eq!(answer, SmallArenaResult { number: 0, found: 1, length: length as u32 });
+                assert_eq!(words, expected, "{index} with room for {room} over {old:?}");
+                let mut words = old.clone();
+                let mut columns = lent(&mut words, lengths);
+                let small = columns.small_arena(index).unwrap().unwrap();
+                assert_eq!(OwnedArena::from(small.as_arena()), *tried, "what is lent on");
+                // with room above the stack it is an arena too
+                #[cfg(feature = "level-one")]
+                assert_eq!(columns.as_arena().check(), Ok(()));
+                assert_eq!(words, expected, "{index} with room for {room} over {old:?}");
+            }
         }
     }
     let (mut words, lengths) = (noise(65_535, 4), [65_535, 65_535, 65_535, 65_535, 4]);
@@ -237,13 +251,13 @@ fn the_call_writes_the_arena_and_further_words_stay() {
 #[test]
 fn past_the_last_one_nothing_is_found_and_nothing_is_written() {
     for length in [0, 1, 3, 7] {
-        for index in PAST {
-            let mut words = noise(length, 4);
+        for (index, old) in PAST.into_iter().flat_map(|index| olds(length, 4).map(|old| (index, old))) {
+            let mut words = old.clone();
             let mut columns = lent(&mut words, [length, length, length, length, 4]);
             let answer = called(&mut columns, index);
             assert_eq!(answer, SmallArenaResult { number: 0, found: 0, length: 0 }, "{index}");
             assert!(columns.small_arena(index).unwrap().is_none());
-            assert_eq!(words, noise(length, 4), "{index}");
+            assert_eq!(words, old, "{index}");
         }
     }
 }
@@ -252,15 +266,17 @@ fn past_the_last_one_nothing_is_found_and_nothing_is_written() {
 fn a_refusal_writes_nothing_and_1_comes_first() {
     let refused = |lengths: [usize; 5], index: u32, kind: RefusalKind| {
         let (longest, header) = (lengths[..4].iter().copied().max().unwrap(), lengths[4]);
-        let mut words = noise(longest, header);
-        let mut columns = lent(&mut words, lengths);
-        let answer = called(&mut columns, index);
-        assert_eq!(answer, SmallArenaResult { number: kind as u32, found: 0, length: 0 }, "{lengths:?}");
-        let refusal = columns.small_arena(index).unwrap_err();
-        assert_eq!(answer.done(), Err(refusal));
-        assert_eq!((refusal.kind(), refusal.slot(), refusal.side()), (kind, None, None));
-        assert_eq!(refusal.to_string(), format!("refused with {}: {kind}", kind as u32));
-        assert_eq!(words, noise(longest, header), "{lengths:?}");
+        for old in olds(longest, header) {
+            let mut words = old.clone();
+            let mut columns = lent(&mut words, lengths);
+            let answer = called(&mut columns, index);
+            assert_eq!(answer, SmallArenaResult { number: kind as u32, found: 0, length: 0 }, "{lengths:?}");
+            let refusal = columns.small_arena(index).unwrap_err();
+            assert_eq!(answer.done(), Err(refusal));
+            assert_eq!((refusal.kind(), refusal.slot(), refusal.side()), (kind, None, None));
+            assert_eq!(refusal.to_string(), format!("refused with {}: {kind}", kind as u32));
+            assert_eq!(words, old, "{lengths:?}");
+        }
     };
     for index in (0..90).chain(PAST) {
         for length in [0, 1, 2, 3, 6] {
@@ -303,7 +319,7 @@ fn the_iterator_knows_how_many_are_left_and_goes_to_any_of_them() {
         };
         assert_eq!((from().len(), from().clone().count()), (90 - begun, 90 - begun));
         assert!(from().eq(all[begun..].iter().cloned()), "a clone or what is left");
-        for n in [0, 1, 5, 88, 89, 90, 91, usize::MAX - 1, usize::MAX] {
+        for n in [0, 1, 5, 88, 89, 90, 91, 256, 1 << 16, 1 << 32, usize::MAX - 1, usize::MAX] {
             let (mut one, mut back) = (from(), from());
             let there = begun.checked_add(n).and_then(|place| all.get(place));
             assert_eq!(one.nth(n).as_ref(), there, "{n} after {begun}");
@@ -342,16 +358,16 @@ fn a_small_arena_is_edited_without_the_others() {
     use chain_arena::{LinkInsertKind, Ptr};
     for small in small_arenas() {
         let (kept, mut edited) = (small.clone(), small.clone());
-        let full = !small.arena().generation.contains(&0);
-        let inserted = edited.arena_mut().insert(LinkInsertKind::Disconnected, 7);
+        let full = !small.as_arena().generation.contains(&0);
+        let inserted = edited.as_arena_mut().insert(LinkInsertKind::Disconnected, 7);
         match inserted {
-            Ok(Ptr { slot, generation: 2 }) => assert_eq!(u32::from(slot), small.arena().header[2]),
+            Ok(Ptr { slot, generation: 2 }) => assert_eq!(u32::from(slot), small.as_arena().header[2]),
             other => assert!(full && other.unwrap_err().kind() == RefusalKind::NotWithinCapacity),
         }
         assert_eq!(inserted.is_err(), edited == small, "{small:?}");
-        assert_eq!(edited.arena().prev.len(), small.arena().prev.len(), "no room is added");
-        edited.arena_mut().set_generation(3).unwrap();
-        assert_eq!((edited.arena().header[3], edited.index()), (3, small.index()));
+        assert_eq!(edited.as_arena().prev.len(), small.as_arena().prev.len(), "no room is added");
+        edited.as_arena_mut().set_generation(3).unwrap();
+        assert_eq!((edited.as_arena().header[3], edited.index()), (3, small.index()));
         assert_ne!(edited, small);
         assert_eq!((small.clone(), SmallArena::new(small.index())), (kept.clone(), Some(kept)));
     }
@@ -408,7 +424,7 @@ fn the_stored_output_of_the_program_is_all_of_them() {
     let output = read("crates/small_printer/stdout");
     assert_eq!(held(&output, TRIED.iter().map(|arena| line(arena.as_arena()))), Ok(()));
     assert_eq!(
-        held(&output, small_arenas().map(|small| line(small.arena()))),
+        held(&output, small_arenas().map(|small| line(small.as_arena()))),
         Ok(()),
         "as the call has them"
     );

@@ -135,6 +135,24 @@ fn an_owned_arena_begins_empty() {
 }
 
 #[test]
+fn an_owned_arena_has_the_words_of_a_lent_one() {
+    let uneven = OwnedArena {
+        prev: vec![1, 2],
+        next: vec![3],
+        generation: vec![],
+        payload: vec![4, 5, 6],
+        header: vec![7, 8, 9, 10, 11],
+    };
+    for arena in [OwnedArena::default(), sample(), uneven] {
+        let mut owned = OwnedArena::from(arena.as_arena());
+        assert_eq!(owned, arena);
+        assert_eq!(OwnedArena::from(owned.as_arena_mut().as_arena()), arena);
+        owned.header[0] += 1;
+        assert_ne!(owned, arena, "words of its own");
+    }
+}
+
+#[test]
 fn every_number_has_its_name_and_words() {
     let mut seen = Vec::new();
     for (number, &kind) in (1..).zip(RefusalKind::ALL) {

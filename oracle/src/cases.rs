@@ -30,40 +30,60 @@ fn marked(a: &Arena, generation: u32, more: u32) -> Arena {
     a
 }
 
-/// All small arenas as the exported call gives them, taken once; if it is not linked, those of the model.
+/// All small arenas as the exported call gives them, taken once.
 ///
 /// # Panics
 ///
 /// If the call gives others than it must. So no section goes on with an arena too few, too many or another one.
 pub fn given() -> &'static [Arena] {
     static GIVEN: OnceLock<Vec<Arena>> = OnceLock::new();
-    if !Archive::SmallArenas.is_linked() {
-        return model::small_arenas();
-    }
-    GIVEN.get_or_init(|| given_by(&guards::outcome).unwrap_or_else(|mismatch| panic!("{mismatch}")))
+    GIVEN.get_or_init(|| given_if_linked(&guards::outcome))
 }
 
-/// All small arenas as a product gives them, index by index until it has no more. Each must be the one that the model finds
-/// among all tuples of words; and put in order the enumerated ones must be the same, word for word.
+/// All small arenas as a product gives them; if the archive of the call is not linked, those of the model.
+///
+/// # Panics
+///
+/// If the product gives others than it must.
+pub fn given_if_linked(product: Product) -> Vec<Arena> {
+    if !Archive::SmallArenas.is_linked() {
+        return model::small_arenas().to_vec();
+    }
+    given_by(product).unwrap_or_else(|mismatch| panic!("{mismatch}"))
+}
+
+/// All small arenas as a product gives them, index by index until it has no more: the words that it left. Each must be the one that
+/// the model finds among all tuples of words; and put in order the enumerated ones must be the same, word for word.
+///
+/// # Panics
+///
+/// If the product has no such call, or if the enumeration has others.
 pub fn given_by(product: Product) -> Result<Vec<Arena>, Box<Mismatch>> {
     let (mut r, mut counts, mut arenas) = (Random::new(4), Counts::default(), Vec::new());
     loop {
         let before = random::noisy(&mut r, [SMALL, SMALL, SMALL, SMALL, 4]);
-        let given = compare(product, &before, &Call::SmallArena(arenas.len() as u32), &mut counts)?;
-        assert_eq!(counts.with_exports, counts.cases, "the product has no such call");
+        let call = Call::SmallArena(arenas.len() as u32);
+        let answer = product(&before, &call).expect("a product that has the call");
+        compare(&|_, _| Some(answer.clone()), &before, &call, &mut counts)?;
+        let given = answer.expect("an outcome, which was held to the model's");
         let [found, length, ..] = given.reply.words;
         if found == 0 {
             break;
         }
         arenas.push(lent_on(given.arena, length as usize));
     }
-    let mut listed: Vec<Arena> = (0..=SMALL).flat_map(enumerated).map(|a| marked(&a, 2, 0)).collect();
-    listed.sort_by_key(place);
-    assert!(arenas == listed, "the enumeration has other small arenas than the call and the model");
+    assert!(are_enumerated(&arenas), "the enumeration has other small arenas than the call and the model");
     Ok(arenas)
 }
 
-/// What the order of the small arenas goes by: stack length, root, then slot by slot generation, prev and next.
+/// Whether these are the enumerated arenas of up to three slots, in order and word for word.
+pub fn are_enumerated(arenas: &[Arena]) -> bool {
+    let mut listed: Vec<Arena> = (0..=SMALL).flat_map(enumerated).map(|a| marked(&a, 2, 0)).collect();
+    listed.sort_by_key(place);
+    arenas == listed
+}
+
+/// What the order of the small arenas goes by: the words for stack length and root, and those of each slot but its payload.
 pub fn place(a: &Arena) -> (usize, u32, Vec<(u32, u16, u16)>) {
     let slot = |place: usize| (a.generation[place], a.prev[place], a.next[place]);
     (a.stack(), a.root(), (0..a.stack()).map(slot).collect())
@@ -667,8 +687,9 @@ pub fn every_call(a: &Arena, slots_of_pairs: usize, mut found: impl FnMut(Call))
     each_insertion(a, &mut found);
     let pointers = pointers(a);
     for (&p, &q) in pointers.iter().flat_map(|p| pointers.iter().map(move |q| (p, q))) {
-        found(Call::Insert(kind::DISCONNECTED - 1, p, q, 7));
-        found(Call::Insert(kind::BRIDGE_INX + 1, p, q, 8));
+        for kind in kind::DISCONNECTED - 1..=kind::BRIDGE_INX + 1 {
+            found(Call::Insert(kind, p, q, kind));
+        }
     }
     each_compression(a, &mut found);
     each_pair_of_edits(a, &mut found);
@@ -692,8 +713,8 @@ fn windows_of_slots() -> Vec<(u32, u32)> {
 }
 
 /// Lengths of columns and header for the call that writes a small arena: equal columns of up to five words with a header of four
-/// and of other lengths, unequal ones of every combination of such lengths, and about 65,535 words, one column a word longer or
-/// shorter or none.
+/// and of other lengths, unequal ones of every combination of such lengths, equal ones of 300 and of 5,000 words, and about 65,535
+/// words, one column a word longer or shorter or none.
 pub fn lengths_to_write() -> Vec<[usize; 5]> {
     let equal = |capacity: usize, header: usize| [capacity, capacity, capacity, capacity, header];
     let few = 0..=5;
@@ -706,6 +727,7 @@ pub fn lengths_to_write() -> Vec<[usize; 5]> {
         let unequal = rest.filter(|&(generation, payload)| [next, generation, payload] != [prev; 3]);
         lengths.extend(unequal.map(|(generation, payload)| [prev, next, generation, payload, 4]));
     }
+    lengths.extend([equal(300, 4), equal(5_000, 4)]);
     for capacity in LIMIT - 1..=LIMIT + 2 {
         lengths.push(equal(capacity, 4));
         for column in 0..4 {
@@ -740,5 +762,57 @@ pub fn indexes(r: &mut Random, all: bool) -> Vec<u32> {
         (0..=100).chain(FAR).chain((0..8).map(|_| r.word())).collect()
     } else {
         vec![0, 1, 4, 17, 89, 90, 256, some_index(r)]
+    }
+}
+
+/// What columns and header can hold in the place of noise before the arena of an index is written into them: all words 0, all the
+/// largest, words below ten; and before the noise that very arena, the one before it, and any one with other generations and with
+/// words that nobody reads all 0, all the largest or noise.
+pub fn old_words(r: &mut Random, noise: &Arena, index: u32) -> [Arena; 6] {
+    let arenas = model::small_arenas();
+    let there = index as usize % arenas.len();
+    let before = (there + arenas.len() - 1) % arenas.len();
+    let generation = 3 + r.word() % 7;
+    let mut used = dressed(&arenas[r.below(arenas.len())], r, 0, &[generation], generation);
+    let unread = r.pick(&[Some(0), Some(u32::MAX), None]);
+    for (place, word) in (0..used.stack()).filter_map(|place| Some((place, unread?))) {
+        if used.generation[place] == 0 {
+            (used.prev[place], used.payload[place]) = (word as u16, word);
+        }
+    }
+    [
+        each_word(noise, |_| 0),
+        each_word(noise, |_| u32::MAX),
+        each_word(noise, |word| word % 10),
+        laid_over(noise, &arenas[there]),
+        laid_over(noise, &arenas[before]),
+        laid_over(noise, &used),
+    ]
+}
+
+/// The columns and the header with another word for each.
+fn each_word(a: &Arena, other: impl Fn(u32) -> u32) -> Arena {
+    let narrow = |words: &[u16]| words.iter().map(|&word| other(word.into()) as u16).collect();
+    let wide = |words: &[u32]| words.iter().map(|&word| other(word)).collect();
+    Arena {
+        prev: narrow(&a.prev),
+        next: narrow(&a.next),
+        generation: wide(&a.generation),
+        payload: wide(&a.payload),
+        header: wide(&a.header),
+    }
+}
+
+/// The columns and the header with the words of a small arena at their front, as many as they have room for.
+fn laid_over(a: &Arena, small: &Arena) -> Arena {
+    fn over<T: Copy>(words: &[T], front: &[T]) -> Vec<T> {
+        front.iter().chain(words.iter().skip(front.len())).take(words.len()).copied().collect()
+    }
+    Arena {
+        prev: over(&a.prev, &small.prev),
+        next: over(&a.next, &small.next),
+        generation: over(&a.generation, &small.generation),
+        payload: over(&a.payload, &small.payload),
+        header: over(&a.header, &small.header),
     }
 }

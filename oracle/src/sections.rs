@@ -210,15 +210,21 @@ pub const SECTIONS: [Section; 27] = [
 
 // Small arenas
 
-/// Every index on equal columns of a few words, in the long form on unequal ones too, and some indexes on all others: columns and
-/// headers of every length that matters, with noise in every word.
+/// Every index on equal columns of up to 5,000 words, in the long form on unequal ones too, and some indexes on all others: columns
+/// and headers of every length that matters, with noise in every word, equal columns with old words of other kinds too.
 fn small_calls(form: Form) -> Jobs {
     let lengths = cases::lengths_to_write();
     Jobs::new(lengths.len(), move |judge, r, number| {
-        let a = random::noisy(r, lengths[number]);
-        let equal = lengths[number][..4] == [a.capacity(); 4];
-        for index in cases::indexes(r, a.capacity() < LIMIT - 1 && (equal || form == Form::Long)) {
-            judge.hold_to(gives_an_arena, &a, &Call::SmallArena(index));
+        let noise = random::noisy(r, lengths[number]);
+        let equal = lengths[number][..4] == [noise.capacity(); 4];
+        for index in cases::indexes(r, noise.capacity() < LIMIT - 1 && (equal || form == Form::Long)) {
+            let call = Call::SmallArena(index);
+            judge.hold_to(gives_an_arena, &noise, &call);
+            if equal {
+                for a in cases::old_words(r, &noise, index) {
+                    judge.hold_to(gives_an_arena, &a, &call);
+                }
+            }
         }
     })
 }

@@ -2,6 +2,7 @@
 //! the same (REFERENCE, Chains), and the model's lines and windows are those that are counted dot by dot (REFERENCE, Frame clock).
 
 use std::collections::{HashMap, HashSet};
+use std::panic::catch_unwind;
 use std::sync::Mutex;
 
 use oracle::cases::{self, COUNTS};
@@ -11,7 +12,10 @@ use oracle::compare::{
 use oracle::random::{self, Near, Random};
 use oracle::runner::Run;
 use oracle::sections::{Form, SECTIONS};
-use oracle::{Arena, Call, LIMIT, Reading, Reply, demand3, exports, frame, guards, model, side};
+use oracle::{
+    Archive, Arena, COMMAND_WORDS, Call, LIMIT, Ptr, Reading, Reply, demand3, exports, frame, guards, model,
+    side,
+};
 
 #[test]
 fn there_are_so_many() {
@@ -49,6 +53,28 @@ fn the_call_gives_every_small_arena_once_and_in_order() {
         enumerated.sort_by_key(cases::place);
         assert_eq!(cases::small_arenas(length), enumerated);
     }
+}
+
+/// The arenas are asked of the product, each index once and in order until there is none; one that has not the call is not gone on
+/// with. Those that sections take are not the model's list.
+#[test]
+fn the_small_arenas_are_asked_of_the_product() {
+    let asked = Mutex::new(Vec::new());
+    let product = |a: &Arena, call: &Call| {
+        asked.lock().unwrap().push(call.clone());
+        Some(Ok(model_outcome(a, call)))
+    };
+    let every_index: Vec<Call> = (0..=90).map(Call::SmallArena).collect();
+    assert_eq!(cases::given_by(&product).expect("the right list"), model::small_arenas());
+    assert_eq!(std::mem::take(&mut *asked.lock().unwrap()), every_index);
+    assert_eq!(cases::given_if_linked(&product), model::small_arenas());
+    let linked = Archive::SmallArenas.is_linked();
+    assert_eq!(asked.into_inner().unwrap(), if linked { every_index } else { vec![] });
+    assert!(catch_unwind(|| cases::given_by(&|_, _| None)).is_err());
+    let last_missing =
+        |a: &Arena, call: &Call| (*call != Call::SmallArena(90)).then(|| Ok(model_outcome(a, call)));
+    assert!(catch_unwind(|| cases::given_by(&last_missing)).is_err());
+    assert_ne!(cases::given().as_ptr(), model::small_arenas().as_ptr());
 }
 
 /// The section of the call has every arena on columns of its own length and on longer ones, up to 65,535 words, 14 for each that
@@ -98,6 +124,104 @@ fn the_cases_of_the_call_are_of_every_kind() {
         assert!(some(&|at, lengths, number, found, _| at == index
             && lengths[0] < 3
             && (number, found) == (0, 0)));
+    }
+}
+
+/// What is asked of an arena.
+#[derive(Default)]
+struct Asked {
+    /// Calls with two pointers by their name or kind of insertion, with these
+    pairs: HashSet<(&'static str, u32, Ptr, Ptr)>,
+    /// Calls with one pointer
+    pointers: HashSet<(&'static str, Ptr)>,
+    /// Compressions: whether canonical, and whether the reset word is 0
+    compressions: HashSet<(bool, bool)>,
+    /// The codes of runs of two commands
+    runs: HashSet<(u32, u32)>,
+    /// Windows of both calls
+    windows: HashSet<(&'static str, u32, u32)>,
+}
+
+impl Asked {
+    /// Keeps what a call asks.
+    fn keep(&mut self, call: &Call) {
+        match *call {
+            Call::Connect(p, q) => _ = self.pairs.insert(("connect", 0, p, q)),
+            Call::ExchangeNext(p, q) => _ = self.pairs.insert(("exchange_next", 0, p, q)),
+            Call::AreNeighbors(p, q) => _ = self.pairs.insert(("are_neighbors", 0, p, q)),
+            Call::Insert(kind, p, q, _) => _ = self.pairs.insert(("insert", kind, p, q)),
+            Call::GetLink(p) => _ = self.pointers.insert(("get_link", p)),
+            Call::GetLinkNoGen(p) => _ = self.pointers.insert(("get_link_no_gen", p)),
+            Call::WalkStart(p) => _ = self.pointers.insert(("walk_start", p)),
+            Call::BreakPrev(p) => _ = self.pointers.insert(("break_prev", p)),
+            Call::BreakNext(p) => _ = self.pointers.insert(("break_next", p)),
+            Call::Remove(p) => _ = self.pointers.insert(("remove", p)),
+            Call::Drain(p, _) => _ = self.pointers.insert(("drain", p)),
+            Call::CompressWith(reset, _) => _ = self.compressions.insert((false, reset == 0)),
+            Call::CompressCanonical(reset, _) => _ = self.compressions.insert((true, reset == 0)),
+            Call::Run(ref words, _) if words.len() == 2 * COMMAND_WORDS => {
+                self.runs.insert((words[0], words[COMMAND_WORDS]));
+            }
+            Call::DueCount(p, from, to) => {
+                self.pointers.insert(("due_count", p));
+                self.windows.insert(("due_count", from, to));
+            }
+            Call::DueEvents(p, from, to, _) => {
+                self.pointers.insert(("due_events", p));
+                self.windows.insert(("due_events", from, to));
+            }
+            _ => {}
+        }
+    }
+}
+
+/// The section of the arenas that the call gives has each of them twice, once with room for one link, and asks of each every call
+/// with every pointer and every two.
+#[test]
+fn the_calls_on_given_arenas_are_of_every_kind() {
+    let asked: Mutex<HashMap<Arena, Asked>> = Mutex::default();
+    let product = |a: &Arena, call: &Call| {
+        let mut asked = asked.lock().unwrap();
+        if !asked.contains_key(a) {
+            asked.insert(a.clone(), Asked::default());
+        }
+        asked.get_mut(a).expect("an arena").keep(call);
+        None
+    };
+    let section = SECTIONS.iter().find(|section| section.name == "small_arenas").expect("a section");
+    let run = Run { product: &product, seed: 1, threads: 2, most: usize::MAX };
+    assert!(run.run(&(section.jobs)(Form::Short), |_| {}).1.is_none());
+    let asked = asked.into_inner().unwrap();
+    assert_eq!(asked.len(), 180);
+    for room in [0, 1] {
+        let of_room = asked.keys().filter(|a| a.capacity() == a.stack() + room);
+        let lent_on: HashSet<Arena> = of_room.map(|a| cases::lent_on(a.clone(), a.stack())).collect();
+        assert_eq!(lent_on, model::small_arenas().iter().cloned().collect());
+    }
+    for (a, asked) in &asked {
+        let pointers = cases::pointers(a);
+        let mut named =
+            vec!["get_link", "get_link_no_gen", "walk_start", "break_prev", "break_next", "remove"];
+        named.extend(["drain", "due_count", "due_events"]);
+        for (&p, call) in pointers.iter().flat_map(|p| named.iter().map(move |call| (p, *call))) {
+            assert!(asked.pointers.contains(&(call, p)), "{call} with {p:?} on {a:?}");
+        }
+        for (&p, &q) in pointers.iter().flat_map(|p| pointers.iter().map(move |q| (p, q))) {
+            let calls = ["connect", "exchange_next", "are_neighbors"].map(|call| (call, 0));
+            for (call, kind) in calls.into_iter().chain((5..=20).map(|kind| ("insert", kind))) {
+                let there = asked.pairs.contains(&(call, kind, p, q));
+                assert!(there, "{call} {kind} with {p:?} and {q:?} on {a:?}");
+            }
+        }
+        assert_eq!(asked.compressions.len(), 4, "{a:?}");
+        for call in ["due_count", "due_events"] {
+            assert!(asked.windows.iter().filter(|window| window.0 == call).count() > 30, "{call} on {a:?}");
+        }
+        for (first, second) in (0..=20).flat_map(|first| (0..=20).map(move |second| (first, second))) {
+            let insertion = [first, second].iter().any(|code| (6..=19).contains(code));
+            let there = asked.runs.contains(&(first, second));
+            assert_eq!(there, !insertion || a.stack() <= 2, "commands {first} and {second} on {a:?}");
+        }
     }
 }
 

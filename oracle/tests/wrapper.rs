@@ -61,7 +61,7 @@ fn any_small_arena() {
 #[test]
 fn the_iterator_over_the_small_arenas() {
     let words = |small: &chain_arena::SmallArena| {
-        let a = small.arena();
+        let a = small.as_arena();
         let (prev, next) = (a.prev.to_vec(), a.next.to_vec());
         let (generation, payload, header) = (a.generation.to_vec(), a.payload.to_vec(), a.header.to_vec());
         Arena { prev, next, generation, payload, header }
@@ -77,7 +77,7 @@ fn the_iterator_over_the_small_arenas() {
     );
     for mut small in all() {
         let before = words(&small);
-        let mut arena = small.arena_mut();
+        let mut arena = small.as_arena_mut();
         assert_eq!(arena.set_generation(7), Ok(()));
         assert_eq!(words(&small), Arena { header: [&before.header[..3], &[7]].concat(), ..before });
     }

@@ -2,6 +2,7 @@
 //! likely way are found out by its sections, and shown on a small case.
 
 use std::collections::BTreeSet;
+use std::panic::{AssertUnwindSafe, catch_unwind};
 
 use oracle::compare::{Answer, Counts, Mismatch, Outcome, Product, compare, model_outcome};
 use oracle::header::{GENERATION, LINKS, ROOT, STACK};
@@ -11,8 +12,8 @@ use oracle::sections::{Form, SECTIONS};
 use oracle::side::{NEXT, PREV};
 use oracle::words::{CALLS_IN_ALL, SMALL_ARENA, calls_on_arenas};
 use oracle::{
-    Arena, COMMAND_WORDS, Call, LIMIT, Ptr, Reading, Reply, Walk, calls, cases, demand3, frame, kind, model,
-    payloads, shrink,
+    Archive, Arena, COMMAND_WORDS, Call, LIMIT, Ptr, Reading, Reply, Walk, calls, cases, demand3, frame,
+    kind, model, payloads, shrink,
 };
 
 /// Every outcome that differs from the given one in one word.
@@ -1480,13 +1481,17 @@ fn giving(list: Vec<Arena>) -> impl Fn(&Arena, &Call) -> Option<Answer> {
 fn a_wrong_list_of_small_arenas_is_found_out() {
     let right = model::small_arenas().to_vec();
     assert_eq!(cases::given_by(&giving(right.clone())).expect("the right list"), right);
+    assert!(cases::are_enumerated(&right));
     assert!(failure(&["small_calls"], usize::MAX, 2, &giving(right.clone())).is_none());
     for (what, change) in WRONG_LISTS {
         let mut list = right.clone();
         change(&mut list);
         assert!(list != right, "{what}: it is the right list");
+        assert!(!cases::are_enumerated(&list), "{what}: it is the enumeration");
         let product = giving(list);
         assert!(cases::given_by(&product).is_err(), "{what}: sections take it for right");
+        let taken = catch_unwind(AssertUnwindSafe(|| cases::given_if_linked(&product)));
+        assert_eq!(taken.is_err(), Archive::SmallArenas.is_linked(), "{what}: sections go on with it");
         let found = failure(&["small_calls"], usize::MAX, 1, &product);
         let found = found.unwrap_or_else(|| panic!("{what}: passes for right"));
         let shown = shrink::smallest(found, &product);
@@ -1497,9 +1502,88 @@ fn a_wrong_list_of_small_arenas_is_found_out() {
     }
 }
 
-/// Wrong programs that need columns of about 65,535 words.
+/// Wrong programs that look at the words that were there before a small arena is written.
+#[rustfmt::skip]
+const WRONG_ABOUT_OLD_WORDS: &[(&str, Wrong)] = &[
+    ("nothing written over a header of three slots and generation 2", |a, call, o| given(call, o, |_, o| {
+        if a.header[STACK] == 3 && a.header[GENERATION] == 2 && a.generation.first() == Some(&2) {
+            o.arena = a.clone();
+        }
+    })),
+    ("nothing written over an arena that passes the check", |a, call, o| given(call, o, |_, o| if model::check(a) == 0 { o.arena = a.clone() })),
+    ("a link too many where the arena is there already", |a, call, o| given(call, o, |_, o| if o.arena == *a { o.arena.header[LINKS] += 1 })),
+    ("14 where the arena is there already, with room", |a, call, o| given(call, o, |length, o| {
+        if o.arena == *a && a.capacity() > length {
+            refuse(a, call, o, 14);
+        }
+    })),
+    ("the arena behind the one that is there", |a, call, o| if let Call::SmallArena(index @ 1..89) = call {
+        let there = model::small_arenas().iter().position(|small| cases::lent_on(a.clone(), small.stack()) == *small);
+        if there == Some(*index as usize - 1) {
+            instead(a, o, Call::SmallArena(index + 1));
+        }
+    }),
+    ("an old current generation of 3 to 9 kept", |a, call, o| given(call, o, |_, o| {
+        if (3..=9).contains(&a.header[GENERATION]) {
+            o.arena.header[GENERATION] = a.header[GENERATION];
+        }
+    })),
+    ("the payload kept of a slot that was free and becomes free", |a, call, o| free_again(a, call, o, |_| true)),
+    ("the same on an arena that passes the check", |a, call, o| free_again(a, call, o, |_| model::check(a) == 0)),
+    ("the same for the largest payload alone", |a, call, o| free_again(a, call, o, |payload| payload == u32::MAX)),
+    ("prev 0 where it was 0 and the capacity is over 3", |a, call, o| given(call, o, |length, o| {
+        for place in (0..length).filter(|&place| a.capacity() > 3 && a.prev[place] == 0) {
+            o.arena.prev[place] = 0;
+        }
+    })),
+    ("the largest payload kept in a slot that becomes free", |a, call, o| given(call, o, |length, o| {
+        for place in (0..length).filter(|&place| a.payload[place] == u32::MAX) {
+            if o.arena.generation[place] == 0 {
+                o.arena.payload[place] = u32::MAX;
+            }
+        }
+    })),
+    ("another root for index 33 over generation 0", |a, call, o| given(call, o, |_, o| {
+        if *call == Call::SmallArena(33) && a.header[GENERATION] == 0 {
+            o.arena.header[ROOT] ^= 1;
+        }
+    })),
+    ("the header kept where all its words are the largest", |a, call, o| given(call, o, |_, o| if a.header == [u32::MAX; 4] { o.arena.header = a.header.clone() })),
+    ("found 1 past the last over an arena that passes the check", |a, call, o| not_found(call, o, |o| o.reply.words[0] = u32::from(model::check(a) == 0))),
+    ("the check made first over a header of words below ten", |a, call, o| given(call, o, |_, o| {
+        if model::check(a) != 0 && a.header.iter().all(|&word| word < 10) {
+            refuse(a, call, o, model::check(a));
+        }
+    })),
+];
+
+/// Keeps payloads of slots that were free and become free.
+fn free_again(a: &Arena, call: &Call, o: &mut Outcome, kept: impl Fn(u32) -> bool) {
+    given(call, o, |length, o| {
+        for place in (0..length.min(a.stack())).filter(|&place| kept(a.payload[place])) {
+            if (a.generation[place], o.arena.generation[place]) == (0, 0) {
+                o.arena.payload[place] = a.payload[place];
+            }
+        }
+    });
+}
+
+#[test]
+fn a_small_arena_that_goes_by_old_words_is_found_out() {
+    for (what, program) in WRONG_ABOUT_OLD_WORDS {
+        let shown = found_out(&["small_calls"], usize::MAX, *program);
+        let shown = shown.unwrap_or_else(|| panic!("{what}: passes for right"));
+        assert!(shown.before.capacity() <= 4, "{what}: {shown}");
+    }
+}
+
+/// Wrong programs that need columns of some hundred words or of about 65,535.
 #[rustfmt::skip]
 const WRONG_ABOUT_LARGE_COLUMNS: &[(&str, Wrong)] = &[
+    ("256 to 59,999 words refused", |a, call, o| if (256..60_000).contains(&a.capacity()) { refuse(a, call, o, 1) }),
+    ("more than 4,095 words and fewer than 60,000 taken for the end", |a, call, o| if (4_096..60_000).contains(&a.capacity()) {
+        of_capacity(a, call, o, a.capacity(), 0);
+    }),
     ("65,536 words taken", |a, call, o| of_capacity(a, call, o, LIMIT + 1, 0)),
     ("65,537 words taken", |a, call, o| of_capacity(a, call, o, LIMIT + 2, 0)),
     ("65,535 words refused", |a, call, o| of_capacity(a, call, o, LIMIT, 1)),

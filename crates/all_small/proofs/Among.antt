@@ -1,15 +1,15 @@
--- Members of lists of any kind: of what was joined, paired and kept; and their places. Assumes nothing.
+-- Members of lists of any kind: of what was joined, paired and kept, and their places; and what can be left out before a test. Assumes nothing.
 use Prim.Native.Nat.{ℕ, zero, suc, _+_, _≤_, _<_}
 use mathlib.Core.Path.{_≡_, refl, sym, ap, _∙_}
 use mathlib.Core.Logic.{_⊎_, inl, inr}
-use mathlib.Core.Bool.{Bool, true, false, cond, true≢false}
-use mathlib.Core.List.{List, [], _∷_, _++_, map}
+use mathlib.Core.Bool.{Bool, true, false, true≢false}
+use mathlib.Core.List.{List, [], _∷_, _++_, map, flatMap}
 use native.Mathlib.Omega.{arith}
 use native.Mathlib.Decide.{ℕ-discrete}
 use lib.ListN.{length, getD}
 use Rattle.definitions.specs.Columns.{slotsFrom}
 use Rattle.definitions.proofs.Tests.{by-test}
-use Rattle.all_small.specs.SmallArenas.{each, pairs, kept}
+use Rattle.all_small.specs.SmallArenas.{pairs, kept}
 
 -- x is a member of a list
 unfoldable pub Among : {A : Type 0} → A → List A → Type 0
@@ -28,12 +28,6 @@ module _ {A : Type 0} where
   among-right x [] ys h = h
   among-right x (z ∷ xs) ys h = inr (among-right x xs ys h)
 
-  pub among-append : (x : A) (xs ys : List A) → Among x (xs ++ ys) → Among x xs ⊎ Among x ys
-  unfolding Among
-  among-append x [] ys h = inr h
-  among-append x (z ∷ xs) ys (inl e) = inl (inl e)
-  among-append x (z ∷ xs) ys (inr h) = elim (among-append x xs ys h) [ inl i ↦ inl (inr i) | inr i ↦ inr i ]
-
 module _ {A : Type 0} where
   pub among-map : {B : Type 0} (f : A → B) (x : A) (xs : List A) → Among x xs → Among (f x) (map f xs)
   unfolding Among
@@ -41,28 +35,22 @@ module _ {A : Type 0} where
   among-map f x (z ∷ xs) (inl e) = inl (ap f e)
   among-map f x (z ∷ xs) (inr h) = inr (among-map f x xs h)
 
-  pub among-each : {B : Type 0} (f : A → List B) (x : A) (xs : List A) (y : B) → Among x xs → Among y (f x) → Among y (each f xs)
-  unfolding Among each
-  among-each f x [] y h i = absurd h
-  among-each f x (z ∷ xs) y (inl e) i = among-left y (f z) (each f xs) (rw (← e) i)
-  among-each f x (z ∷ xs) y (inr h) i = among-right y (f z) (each f xs) (among-each f x xs y h i)
+  pub among-flat : {B : Type 0} (f : A → List B) (x : A) (xs : List A) (y : B) → Among x xs → Among y (f x) → Among y (flatMap f xs)
+  unfolding Among flatMap
+  among-flat f x [] y h i = absurd h
+  among-flat f x (z ∷ xs) y (inl e) i = among-left y (f z) (flatMap f xs) (rw (← e) i)
+  among-flat f x (z ∷ xs) y (inr h) i = among-right y (f z) (flatMap f xs) (among-flat f x xs y h i)
 
-  -- a member has a place, and what has a place is a member
+  -- a member has a place
   pub place-of : (d x : A) (xs : List A) → Among x xs → (i : ℕ) × (i < length xs) × (getD xs i d ≡ x)
   unfolding Among
   place-of d x [] h = absurd h
   place-of d x (z ∷ xs) (inl e) = (0, omega arith, sym e)
   place-of d x (z ∷ xs) (inr h) = let r = place-of d x xs h in (suc (r .0), omega (arith, r .1), r .2)
 
-  pub member-at : (d : A) (xs : List A) (i : ℕ) → i < length xs → Among (getD xs i d) xs
-  unfolding Among
-  member-at d [] i h = absurd (omega arith)
-  member-at d (x ∷ xs) zero h = inl refl
-  member-at d (x ∷ xs) (suc i) h = inr (member-at d xs i (omega arith))
-
 pub among-pairs : {A B C : Type 0} (f : A → B → C) (x : A) (y : B) (xs : List A) (ys : List B) → Among x xs → Among y ys → Among (f x y) (pairs f xs ys)
 unfolding pairs
-among-pairs f x y xs ys h i = among-each (λ x. map (f x) ys) x xs (f x y) h (among-map (f x) y ys i)
+among-pairs f x y xs ys h i = among-flat (λ x. map (f x) ys) x xs (f x y) h (among-map (f x) y ys i)
 
 pub among-slots : (x s k : ℕ) → s ≤ x → x < s + k → Among x (slotsFrom s k)
 unfolding Among slotsFrom
@@ -78,12 +66,7 @@ module _ {A : Type 0} (test : A → Bool) where
   among-kept a (b ∷ xs) (inl e) t = rw (← e, t) (inl refl)
   among-kept a (b ∷ xs) (inr h) t = let r = among-kept a xs h t in by-test (test b) (λ f. rw f (inr r)) (λ f. rw f r)
 
-  pub kept-passes : (a : A) (xs : List A) → Among a (kept test xs) → test a ≡ true
-  unfolding Among kept
-  kept-passes a [] h = absurd h
-  kept-passes a (b ∷ xs) h = by-test (test b) (λ f. elim (rw f at h) [ inl e ↦ ap test e ∙ f | inr i ↦ kept-passes a xs i ]) (λ f. kept-passes a xs (rw f at h))
-
-pub kept-append : {A : Type 0} (test : A → Bool) (xs ys : List A) → kept test (xs ++ ys) ≡ kept test xs ++ kept test ys
+kept-append : {A : Type 0} (test : A → Bool) (xs ys : List A) → kept test (xs ++ ys) ≡ kept test xs ++ kept test ys
 unfolding kept
 kept-append test [] ys = refl
 kept-append {A} test (x ∷ xs) ys = by-test (test x) (λ e. rw e (ap (λ (l : List A). x ∷ l) (kept-append test xs ys))) (λ e. rw e (kept-append test xs ys))
@@ -101,7 +84,7 @@ module _ {A B : Type 0} (test : B → Bool) (weaker : A → Bool) where
 
 pub kept-pairs : {A B C : Type 0} (test : C → Bool) (weaker : B → Bool) (f : A → B → C) (xs : List A) (ys : List B) → ((x : A) (y : B) → test (f x y) ≡ true → weaker y ≡ true)
     → kept test (pairs f xs (kept weaker ys)) ≡ kept test (pairs f xs ys)
-unfolding pairs each
+unfolding pairs flatMap
 kept-pairs test weaker f [] ys h = refl
 kept-pairs test weaker f (x ∷ xs) ys h =
     kept-append test (map (f x) (kept weaker ys)) _ ∙ rw (kept-thinned test weaker (f x) ys (h x), kept-pairs test weaker f xs ys h) (sym (kept-append test (map (f x) ys) _))

@@ -1,17 +1,18 @@
 -- Every small arena is among those that are tried: it is the arena of its rows and its root, and all its words are among those that a row may have. Assumes
 -- nothing.
-use Prim.Native.Nat.{ℕ, zero, suc, _+_, _≤_, _<_}
+use Prim.Native.Nat.{ℕ, zero, suc, _+_, _≤_}
 use mathlib.Core.Path.{_≡_, refl, sym, ap, _∙_}
-use mathlib.Core.Logic.{_⊎_, inl, inr}
-use mathlib.Core.Bool.{Bool, true, false}
+use mathlib.Core.Logic.{inl, inr}
+use mathlib.Core.Bool.{true, false}
 use mathlib.Core.List.{List, [], _∷_, _++_, map, map-map}
 use native.Mathlib.Omega.{arith}
 use native.Mathlib.Decide.{ℕ-discrete}
 use lib.ListN.{length, getD, length-map}
 use Rattle.definitions.specs.Columns.{at, slotsFrom, firstOr, lastOr}
-use Rattle.definitions.specs.Arena.{Arena, arena, headerWords, stackLength, linkCount, root, current, isLink, linkSlots}
+use Rattle.definitions.specs.Arena.{Arena, headerWords, stackLength, linkCount, root, isLink, linkSlots}
 use Rattle.definitions.specs.Check.{WellFormed, Freelist}
 use Rattle.definitions.proofs.Tests.{by-test}
+use Rattle.definitions.proofs.Header.{four-words}
 use Rattle.definitions.proofs.Slots.{length-slots, allocated-within, not-allocated}
 use Rattle.definitions.proofs.Count.{In, in-here, not-in-nil}
 use Rattle.definitions.proofs.Linked.{in-last, next-in}
@@ -32,12 +33,7 @@ read-back xs n e f h =
 
 -- a header by its words
 four : (h : List ℕ) → length h ≡ headerWords → (getD h 0 0 ∷ getD h 1 0 ∷ getD h 2 0 ∷ getD h 3 0 ∷ []) ≡ h
-four [] e = absurd (omega arith)
-four (n ∷ []) e = absurd (omega arith)
-four (n ∷ k ∷ []) e = absurd (omega arith)
-four (n ∷ k ∷ r ∷ []) e = absurd (omega arith)
-four (n ∷ k ∷ r ∷ g ∷ []) e = refl
-four (n ∷ k ∷ r ∷ g ∷ x ∷ xs) e = absurd (omega arith)
+four h e = four-words (λ (h : List ℕ). (getD h 0 0 ∷ getD h 1 0 ∷ getD h 2 0 ∷ getD h 3 0 ∷ []) ≡ h) h e (λ n k r g. refl)
 
 module _ (limit : ℕ) (a : Arena) (h : IsSmall limit a) where
   ok : WellFormed limit a

@@ -1,18 +1,18 @@
 -- What is said of the list leaves no choice: no other list has all small arenas in this order, and no two of its entries are equal. Two lists of as many entries
 -- that both rise and hold the same: an entry's place in the other list rises with its own place, and so it is the same place. Assumes nothing.
 use Prim.Native.Nat.{ℕ, zero, suc, _+_, _-_, _≤_, _<_}
-use mathlib.Core.Path.{_≡_, refl, sym, ap, _∙_}
+use mathlib.Core.Path.{_≡_, sym, ap, _∙_}
 use mathlib.Core.Bool.{Bool, true, false, cond, true≢false}
 use mathlib.Core.List.{List, [], _∷_}
 use native.Mathlib.Omega.{arith}
 use native.Mathlib.Decide.{ℕ-discrete, decLt}
-use lib.ListN.{length, getD}
+use lib.ListN.{length}
 use lib.Seq.{ext-getD}
 use lib.Dec.{eqb, ltb}
-use borrow.Author.Tests.{ltb-true, ltb-false, eqb-true, lt-ltb, le-ltb, eq-eqb, ne-eqb}
+use borrow.Author.Tests.{eqb-true, le-ltb}
 use Rattle.definitions.specs.Arena.{Arena, arena}
 use Rattle.definitions.proofs.Tests.{by-test}
-use Rattle.statements.specs.SmallArenas.{IsSmall, orderWords, earlier, before, entry, AllSmall}
+use Rattle.statements.specs.SmallArenas.{orderWords, earlier, before, entry, AllSmall}
 use Rattle.all_small.specs.SmallArenas.{smallArenas}
 use Rattle.all_small.proofs.SmallArenas.{small-arenas-at}
 
@@ -35,7 +35,7 @@ never-both (x ∷ xs) (y ∷ ys) e f = elim (decLt x y) [
   ]
 ]
 
-pub before-once : (a b : Arena) → before a b ≡ true → before b a ≡ true → ⊥
+before-once : (a b : Arena) → before a b ≡ true → before b a ≡ true → ⊥
 unfolding before
 before-once a b = never-both (orderWords a) (orderWords b)
 
@@ -52,7 +52,7 @@ module _ {limit : ℕ} {arenas : List Arena} (w : AllSmall limit arenas) where
       twice i j l q e = let once : before (entry arenas j) (entry arenas j) ≡ true = rw e at (w .rising i j l q) in before-once (entry arenas j) (entry arenas j) once once
 
   -- the earlier of two entries has the lower place
-  pub lower-place : (i j : ℕ) → i < length arenas → j < length arenas → before (entry arenas i) (entry arenas j) ≡ true → i < j
+  lower-place : (i j : ℕ) → i < length arenas → j < length arenas → before (entry arenas i) (entry arenas j) ≡ true → i < j
   lower-place i j p q e = elim (decLt i j) [
     | yes l ↦ l
     | no l ↦ elim (ℕ-discrete i j) [
@@ -84,7 +84,7 @@ module _ {limit : ℕ} {xs ys : List Arena} (v : AllSmall limit xs) (w : AllSmal
       same = elim (decLt (place i p .0) (suc (place (i + 0) q .0))) [ yes l ↦ omega arith | no l ↦ omega (arith, none-twice w (place i p .0) (place (i + 0) q .0) (place i p .1) (place (i + 0) q .1) (place i p .2 ∙ ap (entry xs) (omega arith) ∙ sym (place (i + 0) q .2))) ]
   ahead i (suc k) p q = let r : i + k < length xs = omega arith in omega (arith, ahead i k p r, rises (i + k) (i + suc k) r q (omega arith))
 
-  pub same-list : xs ≡ ys
+  same-list : xs ≡ ys
   unfolding entry
   same-list = ext-getD (arena [] [] [] [] []) xs ys (v .size ∙ sym (w .size)) (λ i h. sym (there i h))
     where

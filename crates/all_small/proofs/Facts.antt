@@ -4,7 +4,6 @@ use mathlib.Core.Path.{_≡_, refl}
 use mathlib.Core.Bool.{Bool, true, false, cond, _&&_}
 use native.Mathlib.Omega.{arith}
 use native.Mathlib.Decide.{ℕ-discrete, decLe}
-use lib.ListN.{length}
 use lib.Dec.{eqb, leb}
 use borrow.Author.Tests.{eqb-true, leb-true}
 use Rattle.definitions.specs.Columns.{at}
@@ -14,27 +13,27 @@ use Rattle.definitions.proofs.Tests.{both-first, both-second}
 use Rattle.definitions.proofs.Columns.{at-zero}
 use Rattle.definitions.proofs.Parts.{at-past}
 use Rattle.definitions.proofs.Slots.{allocated-some, allocated-within}
-use Rattle.well_formed.proofs.WellFormed.{well-formed-if-passes, passes-if-well-formed}
+use Rattle.definitions.proofs.Shaped.{Shaped, shaped}
+use Rattle.well_formed.proofs.WellFormed.{well-formed-if-passes}
+use Rattle.well_formed.proofs.ReadsOnly.{passes-in-columns}
 use Rattle.statements.specs.SmallArenas.{IsSmall}
 
 -- ---- the check's limit does not matter to an arena that is within both
 
 pub passes-at : (limit other : ℕ) (a : Arena) → capacity a ≤ other → verdict limit a ≡ 0 → verdict other a ≡ 0
 passes-at limit other a within e =
-    let w = well-formed-if-passes limit a e in
-    passes-if-well-formed other a record {
-      header = w .header;
+    let s = shaped limit a e in
+    let fits : Shaped other a = record {
+      header = s .header;
       small = within;
-      next-length = w .next-length;
-      generation-length = w .generation-length;
-      payload-length = w .payload-length;
-      generation = w .generation;
-      within = w .within;
-      links = w .links;
-      freelist = w .freelist;
-      prev = w .prev;
-      next = w .next;
-    }
+      next-length = s .next-length;
+      generation-length = s .generation-length;
+      payload-length = s .payload-length;
+      generation = s .generation;
+      links-within = s .links-within;
+      within = s .within;
+    } in
+    passes-in-columns a a refl (λ x l. refl) (λ x l. refl) (λ x l. refl) limit other fits e
 
 -- ---- the words of a slot, as in a small arena
 

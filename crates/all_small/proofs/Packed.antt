@@ -1,7 +1,7 @@
 -- A small arena as one number, whose digits to the base 4 are its words: stack length, link count and root, and then, slot by slot, prev, next, generation and
 -- payload. The current generation is always 2 and has no digit. Assumes nothing.
-use Prim.Native.Nat.{ℕ, zero, suc, _/_, _%_, _≤_, _<_}
-use mathlib.Core.Path.{_≡_, refl, ap, _∙_}
+use Prim.Native.Nat.{ℕ, zero, suc, _/_, _%_, _<_}
+use mathlib.Core.Path.{_≡_, refl, _∙_}
 use mathlib.Core.List.{List, [], _∷_, _++_}
 use native.Mathlib.Omega.{arith}
 use lib.ListN.{length, length-append}

@@ -9,16 +9,18 @@ use native.Mathlib.Omega.{arith}
 use native.Mathlib.Decide.{decLt}
 use lib.ListN.{length, getD}
 use lib.Seq.{take-at}
-use lib.Dec.{ltb}
 use borrow.Author.Tests.{lt-ltb, le-ltb}
 use Rattle.definitions.specs.Columns.{written}
 use Rattle.definitions.specs.Arena.{Arena, capacity, stackLength}
-use Rattle.definitions.specs.Check.{misshapen, WellFormed}
+use Rattle.definitions.specs.Check.{misshapen, verdict, WellFormed}
 use Rattle.definitions.specs.Reply.{Reply, reply, refusal}
 use Rattle.definitions.proofs.Tests.{by-test}
-use Rattle.definitions.proofs.Written.{written-rest}
+use Rattle.definitions.proofs.Slots.{allocated-within}
+use Rattle.definitions.proofs.Shaped.{Shaped, sized, shaped}
+use Rattle.definitions.proofs.Written.{length-written, written-reads, written-rest}
 use Rattle.well_formed.proofs.WellFormed.{well-formed-if-passes}
-use Rattle.statements.specs.SmallArenas.{IsSmall, entry, AllSmall, lentOn, behind, GivesSmall}
+use Rattle.well_formed.proofs.ReadsOnly.{passes-in-columns}
+use Rattle.statements.specs.SmallArenas.{IsSmall, entry, lentOn, behind, GivesSmall}
 use Rattle.all_small.specs.SmallArenas.{smallArenas}
 use Rattle.all_small.specs.SmallArena.{laidIn, smallArena}
 use Rattle.all_small.proofs.SmallArenas.{small-arenas-at, small-arenas}
@@ -48,7 +50,7 @@ module _ (limit : ℕ) (a : Arena) (index : ℕ) where
     unfolding smallArena
     laid h l = rw (m, lt-ltb index (length smallArenas) (omega (arith, ninety)), le-ltb (capacity a) _ l) refl
 
-    pub nothing-else : ((index < 90) × (capacity a < stackLength (entry smallArenas index))) ⊎ ((90 ≤ index) ⊎ ((index < 90) × (stackLength (entry smallArenas index) ≤ capacity a)))
+    nothing-else : ((index < 90) × (capacity a < stackLength (entry smallArenas index))) ⊎ ((90 ≤ index) ⊎ ((index < 90) × (stackLength (entry smallArenas index) ≤ capacity a)))
     nothing-else = elim (decLt index 90) [
       | yes h ↦ elim (decLt (capacity a) (stackLength (entry smallArenas index))) [ yes l ↦ inl (h, l) | no l ↦ inr (inr (h, omega arith)) ]
       | no h ↦ inr (inl (omega arith))
@@ -164,9 +166,30 @@ module _ (limit : ℕ) (e a : Arena) (s : IsSmall limit e) where
       rw (take-at (e .prev) _ (stackLength e) prev-size, take-at (e .next) _ (stackLength e) next-size, take-at (e .generation) _ (stackLength e) generation-size, take-at (e .payload) _ (stackLength e) payload-size)
       refl
 
-  gives : (r : Reply) → r ≡ reply 0 (1 ∷ stackLength e ∷ []) (laidIn e a) [] → GivesSmall limit e a r
+  -- the columns as a whole are the same arena, with room above the stack
+  with-room : misshapen limit a ≡ false → stackLength e ≤ capacity a → verdict limit (laidIn e a) ≡ 0
+  unfolding laidIn
+  with-room m room =
+      let z = sized limit a m in
+      let fits : Shaped limit (laidIn e a) = record {
+        header = ok .header;
+        small = rw (length-written (e .prev) (a .prev) (omega (arith, prev-size))) (z .small);
+        next-length = rw (length-written (e .prev) (a .prev) (omega (arith, prev-size)), length-written (e .next) (a .next) (omega (arith, next-size, z .next-length))) (z .next-length);
+        generation-length = rw (length-written (e .prev) (a .prev) (omega (arith, prev-size)), length-written (e .generation) (a .generation) (omega (arith, generation-size, z .generation-length))) (z .generation-length);
+        payload-length = rw (length-written (e .prev) (a .prev) (omega (arith, prev-size)), length-written (e .payload) (a .payload) (omega (arith, payload-size, z .payload-length))) (z .payload-length);
+        generation = ok .generation;
+        links-within = rw (length-written (e .prev) (a .prev) (omega (arith, prev-size))) (omega (arith, shaped limit e (s .passes) .links-within, s .full));
+        within = rw (length-written (e .prev) (a .prev) (omega (arith, prev-size))) room;
+      } in
+      passes-in-columns e (laidIn e a) refl
+      (λ x l. sym (written-reads (e .generation) (a .generation) x (omega (arith, generation-size))))
+      (λ x l. sym (written-reads (e .next) (a .next) x (omega (arith, next-size))))
+      (λ x l. sym (written-reads (e .prev) (a .prev) x (omega (arith, prev-size, allocated-within _ _ x l))))
+      limit limit fits (s .passes)
+
+  gives : (t : Reply) → t ≡ reply 0 (1 ∷ stackLength e ∷ []) (laidIn e a) [] → GivesSmall limit e a t
   unfolding laidIn behind
-  gives r q = rw q record {
+  gives t q = rw q record {
     number = refl;
     fields = refl;
     lent-on = front;
@@ -187,6 +210,12 @@ pub gives-small : (limit : ℕ) → 3 ≤ limit → (a : Arena) (index : ℕ) �
 gives-small limit h a index m i room =
     gives limit (entry smallArenas index) a (small-arenas-at limit h .small index (omega (arith, ninety))) (smallArena limit a index) (laid limit a index m i room)
 
+-- and the columns as a whole, lent on with the header, pass the check too: they hold it with room above the stack
+pub held-with-room : (limit : ℕ) → 3 ≤ limit → (a : Arena) (index : ℕ) → misshapen limit a ≡ false → index < 90 → stackLength (entry smallArenas index) ≤ capacity a
+    → verdict limit (smallArena limit a index .arena) ≡ 0
+held-with-room limit h a index m i room =
+    rw (laid limit a index m i room) (with-room limit (entry smallArenas index) a (small-arenas-at limit h .small index (omega (arith, ninety))) m room)
+
 -- every small arena comes, at some index, in all columns that have room for it
 pub every-small-comes : (limit : ℕ) → 3 ≤ limit → (e : Arena) → IsSmall limit e
     → (index : ℕ) × (index < 90) × ((a : Arena) → misshapen limit a ≡ false → stackLength e ≤ capacity a → GivesSmall limit e a (smallArena limit a index))
@@ -199,7 +228,7 @@ every-small-comes limit h e s =
     )
 
 -- what is given at an index is the entry of that index
-pub given-entry : (limit : ℕ) → 3 ≤ limit → (e a : Arena) (i : ℕ) → misshapen limit a ≡ false → GivesSmall limit e a (smallArena limit a i) → (i < 90) × (e ≡ entry smallArenas i)
+given-entry : (limit : ℕ) → 3 ≤ limit → (e a : Arena) (i : ℕ) → misshapen limit a ≡ false → GivesSmall limit e a (smallArena limit a i) → (i < 90) × (e ≡ entry smallArenas i)
 given-entry limit h e a i m v =
     let is : getD (smallArena limit a i .fields) 0 0 ≡ 1 = ap (λ (fs : List ℕ). getD fs 0 0) (v .fields) in
     let f = small-found-exactly limit a i m .0 is in

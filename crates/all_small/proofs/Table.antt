@@ -3,7 +3,7 @@
 use Prim.Native.Nat.{ℕ, zero, suc, _<_}
 use mathlib.Core.Path.{_≡_, refl, sym, ap, _∙_}
 use mathlib.Core.Bool.{Bool, true}
-use mathlib.Core.List.{List, [], _∷_, map}
+use mathlib.Core.List.{List, [], _∷_, map, flatMap}
 use native.Mathlib.Omega.{arith}
 use lib.ListN.{length, getD}
 use borrow.Author.Tests.{eqb-true}
@@ -12,7 +12,7 @@ use Rattle.definitions.specs.Arena.{Arena, arena, allocated, linkSlots, freeSlo
 use Rattle.definitions.specs.Check.{misshapen, freelistWalk, namesBack, neighboursFine, allFine, countsOf, verdict}
 use Rattle.definitions.proofs.Shaped.{passed-links}
 use Rattle.statements.specs.SmallArenas.{entry}
-use Rattle.all_small.specs.SmallArenas.{each, pairs, kept, upTo, Row, rowsOf, stacks, ownSlots, stacked, passesCheck, ofLength, smallArenas}
+use Rattle.all_small.specs.SmallArenas.{pairs, kept, upTo, Row, rowsOf, stacks, ownSlots, stacked, passesCheck, ofLength, smallArenas}
 use Rattle.all_small.proofs.Among.{kept-pairs}
 use Rattle.all_small.proofs.Packed.{digit, after, digits, unpacked}
 
@@ -44,18 +44,18 @@ table =
     16908851 ∷ 33691703 ∷ 52959291 ∷ 53123131 ∷ 52976187 ∷ 33692023 ∷ 52959611 ∷ 53123451 ∷ 53024955 ∷ 53041851 ∷
     []
 
-computes : each thinned (upTo 3) ≡ map unpacked table
-unfolding each pairs kept upTo rowsOf stacks ownSlots stacked passesCheck interlinked thinned digit after digits unpacked at slotsFrom keep allocated linkSlots freeSlots misshapen freelistWalk namesBack neighboursFine allFine countsOf verdict
+computes : flatMap thinned (upTo 3) ≡ map unpacked table
+unfolding flatMap pairs kept upTo rowsOf stacks ownSlots stacked passesCheck interlinked thinned digit after digits unpacked at slotsFrom keep allocated linkSlots freeSlots misshapen freelistWalk namesBack neighboursFine allFine countsOf verdict
 computes = refl
 
-same-each : (ns : List ℕ) → each thinned ns ≡ each ofLength ns
-unfolding each
-same-each [] = refl
-same-each (n ∷ ns) = rw (of-length n, same-each ns) refl
+same-lists : (ns : List ℕ) → flatMap thinned ns ≡ flatMap ofLength ns
+unfolding flatMap
+same-lists [] = refl
+same-lists (n ∷ ns) = rw (of-length n, same-lists ns) refl
 
 pub listed : smallArenas ≡ map unpacked table
 unfolding smallArenas
-listed = sym (same-each (upTo 3)) ∙ computes
+listed = sym (same-lists (upTo 3)) ∙ computes
 
 -- ---- entry by entry
 

@@ -1,21 +1,16 @@
 -- The small arenas, all of them, in their order: of all that the words of a short stack may be, what the check passes (REFERENCE, Small arenas).
 use Prim.Native.Nat.{ℕ, zero, suc}
 use mathlib.Core.Bool.{Bool, cond}
-use mathlib.Core.List.{List, [], _∷_, _++_, map}
+use mathlib.Core.List.{List, [], _∷_, _++_, map, flatMap}
 use lib.ListN.{length}
 use lib.Dec.{eqb}
 use Rattle.definitions.specs.Columns.{slotsFrom}
 use Rattle.definitions.specs.Arena.{Arena, arena, linkSlots, allocated}
 use Rattle.definitions.specs.Check.{verdict}
 
--- the lists of the members of a list, one after the other
-unfoldable pub each : {A B : Type 0} → (A → List B) → List A → List B
-each f [] = []
-each f (x ∷ xs) = f x ++ each f xs
-
 -- every x of the first list with every y of the second, in their order
 unfoldable pub pairs : {A B C : Type 0} → (A → B → C) → List A → List B → List C
-pairs f xs ys = each (λ x. map (f x) ys) xs
+pairs f xs ys = flatMap (λ x. map (f x) ys) xs
 
 -- the members of a list that pass a test, in their order
 unfoldable pub kept : {A : Type 0} → (A → Bool) → List A → List A
@@ -65,4 +60,4 @@ unfoldable pub ofLength : ℕ → List Arena
 ofLength n = kept passesCheck (pairs stacked (upTo n) (stacks n n))
 
 unfoldable pub smallArenas : List Arena
-smallArenas = each ofLength (upTo 3)
+smallArenas = flatMap ofLength (upTo 3)

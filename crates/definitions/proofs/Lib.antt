@@ -7,6 +7,7 @@ pub mod Count
 pub mod Linked
 pub mod Freelist
 pub mod Shaped
+pub mod Header
 pub mod Interlinks
 pub mod Broken
 pub mod Fields

@@ -14,7 +14,7 @@ use Rattle.definitions.specs.Remove.{joined, vacated, removed}
 use Rattle.definitions.proofs.Columns.{at-put-same, at-put-other}
 use Rattle.definitions.proofs.Slots.{allocated-yes, allocated-some, allocated-within, allocated-live, allocated-free}
 use Rattle.definitions.proofs.Tests.{by-test}
-use Rattle.kept.proofs.Header.{four-words}
+use Rattle.definitions.proofs.Header.{four-words}
 use Rattle.kept.proofs.Removal.{removed-other}
 use Rattle.statements.specs.DrainsChain.{Untouched}
 

@@ -36,8 +36,8 @@ use Rattle.well_formed.proofs.WellFormed.{check-passes-exactly-if-well-formed}
 use Rattle.all_small.specs.SmallArenas.{smallArenas}
 use Rattle.all_small.specs.SmallArena.{smallArena}
 use Rattle.all_small.proofs.SmallArenas.{small-arenas-at, small-arenas}
-use Rattle.all_small.proofs.Determined.{no-other-list}
-use Rattle.all_small.proofs.SmallCall.{small-one-exactly, small-fourteen-exactly, small-done-exactly, small-found-exactly, unfound-changes-nothing, refusal-finds-none, gives-small, every-small-comes, none-comes-twice}
+use Rattle.all_small.proofs.Determined.{none-twice, no-other-list}
+use Rattle.all_small.proofs.SmallCall.{small-one-exactly, small-fourteen-exactly, small-done-exactly, small-found-exactly, unfound-changes-nothing, refusal-finds-none, gives-small, held-with-room, every-small-comes, none-comes-twice}
 use Rattle.every_call.proofs.SmallArenas.{small-refusal-by-contract, small-by-contract, calls-after-small}
 use Rattle.well_formed.proofs.ReadsOnly.{verdict-reads-only, broken-reads-only, payloads-are-not-read}
 use Rattle.well_formed.proofs.Verdict.{eleven-fails, verdict-bound}
@@ -588,14 +588,26 @@ has-all limit arenas w =
       λ a s. let place = w .every a s in (place .0, omega (arith, place .1, w .size), place .2),
     )
 
+all-of : (limit : ℕ) (arenas : List Arena) → HasAll limit arenas → AllSmall limit arenas
+all-of limit arenas h = record {
+  size = h .0;
+  by-length = rw (h .1, h .2, h .3, h .4) refl;
+  rising = λ i j l k. h .5 i j l (omega (arith, h .0));
+  small = λ i l. h .6 i (omega (arith, h .0));
+  every = λ a s. let place = h .7 a s in (place .0, omega (arith, place .1, h .0), place .2);
+}
+
 pub small-arenas-at-in-full : (limit : ℕ) → 3 ≤ limit → HasAll limit smallArenas
 small-arenas-at-in-full limit h = has-all limit smallArenas (small-arenas-at limit h)
 
 pub small-arenas-in-full : HasAll 65535 smallArenas
 small-arenas-in-full = has-all 65535 smallArenas small-arenas
 
-pub no-other-list-in-full : (limit : ℕ) → 3 ≤ limit → (arenas : List Arena) → AllSmall limit arenas → arenas ≡ smallArenas
-no-other-list-in-full = no-other-list
+pub none-twice-in-full : (limit : ℕ) (arenas : List Arena) → HasAll limit arenas → (i j : ℕ) → i < 90 → j < 90 → entry arenas i ≡ entry arenas j → i ≡ j
+none-twice-in-full limit arenas h i j k l = none-twice (all-of limit arenas h) i j (omega (arith, h .0)) (omega (arith, h .0))
+
+pub no-other-list-in-full : (limit : ℕ) → 3 ≤ limit → (arenas : List Arena) → HasAll limit arenas → arenas ≡ smallArenas
+no-other-list-in-full limit h arenas w = no-other-list limit h arenas (all-of limit arenas w)
 
 module _ (limit : ℕ) (a : Arena) (index : ℕ) where
   pub small-one-exactly-in-full : (smallArena limit a index .number ≡ 1) ↔ (misshapen limit a ≡ true)
@@ -628,24 +640,33 @@ Gives limit e a r =
 given : {limit : ℕ} {e a : Arena} {r : Reply} → GivesSmall limit e a r → Gives limit e a r
 given w = (w .number, w .fields, w .lent-on, w .small, w .stays)
 
+gives-all : {limit : ℕ} {e a : Arena} {r : Reply} → Gives limit e a r → GivesSmall limit e a r
+gives-all h = record { number = h .0; fields = h .1; lent-on = h .2; small = h .3; stays = h .4 }
+
 pub gives-small-in-full : (limit : ℕ) → 3 ≤ limit → (a : Arena) (index : ℕ) → misshapen limit a ≡ false → index < 90 → stackLength (entry smallArenas index) ≤ capacity a
     → Gives limit (entry smallArenas index) a (smallArena limit a index)
 gives-small-in-full limit h a index m i room = given (gives-small limit h a index m i room)
+
+pub held-with-room-in-full : (limit : ℕ) → 3 ≤ limit → (a : Arena) (index : ℕ) → misshapen limit a ≡ false → index < 90 → stackLength (entry smallArenas index) ≤ capacity a
+    → verdict limit (smallArena limit a index .arena) ≡ 0
+held-with-room-in-full = held-with-room
 
 pub every-small-comes-in-full : (limit : ℕ) → 3 ≤ limit → (e : Arena) → IsSmall limit e
     → (index : ℕ) × (index < 90) × ((a : Arena) → misshapen limit a ≡ false → stackLength e ≤ capacity a → Gives limit e a (smallArena limit a index))
 every-small-comes-in-full limit h e s = let place = every-small-comes limit h e s in (place .0, place .1, λ a m room. given (place .2 a m room))
 
 pub none-comes-twice-in-full : (limit : ℕ) → 3 ≤ limit → (e : Arena) (i j : ℕ) (a b : Arena) → misshapen limit a ≡ false → misshapen limit b ≡ false
-    → GivesSmall limit e a (smallArena limit a i) → GivesSmall limit e b (smallArena limit b j) → i ≡ j
-none-comes-twice-in-full = none-comes-twice
+    → Gives limit e a (smallArena limit a i) → Gives limit e b (smallArena limit b j) → i ≡ j
+none-comes-twice-in-full limit h e i j a b m n v w = none-comes-twice limit h e i j a b m n (gives-all v) (gives-all w)
 
 module _ (limit : ℕ) (a : Arena) (index : ℕ) (r : Reply) (p : r ≡ smallArena limit a index) where
   pub small-refusal-by-contract-in-full : (r .number ≡ 0 → ⊥) → (r .fields ≡ 0 ∷ 0 ∷ []) × (r .arena ≡ a)
   small-refusal-by-contract-in-full = small-refusal-by-contract limit a index r p
 
-  pub small-by-contract-in-full : 3 ≤ limit → getD (r .fields) 0 0 ≡ 1 → (index < 90) × GivesSmall limit (entry smallArenas index) a r
-  small-by-contract-in-full = small-by-contract limit a index r p
+  pub small-by-contract-in-full : 3 ≤ limit → getD (r .fields) 0 0 ≡ 1 → (index < 90) × Gives limit (entry smallArenas index) a r
+  small-by-contract-in-full h found = let told = small-by-contract limit a index r p h found in (told .0, given (told .1))
 
-  pub calls-after-small-in-full : 3 ≤ limit → getD (r .fields) 0 0 ≡ 1 → (top : ℕ) (ms : List Made) → WellFormed limit (arenaAfter limit top ms (lentOn (getD (r .fields) 1 0) (r .arena)))
+  pub calls-after-small-in-full : 3 ≤ limit → getD (r .fields) 0 0 ≡ 1 → (top : ℕ) (ms : List Made) →
+      (verdict limit (arenaAfter limit top ms (lentOn (getD (r .fields) 1 0) (r .arena))) ≡ 0)
+      × (verdict limit (arenaAfter limit top ms (r .arena)) ≡ 0)
   calls-after-small-in-full = calls-after-small limit a index r p

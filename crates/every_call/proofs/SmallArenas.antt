@@ -1,21 +1,20 @@
 -- What follows for a program that keeps the contract of the call that gives small arenas: what it finds is the small arena of the index, a refusal writes nothing,
--- and whatever calls are made on what is lent on, the arena passes the check. Assumes nothing.
+-- and whatever calls are made on what is lent on, or on the columns as a whole, the arena passes the check. Assumes nothing.
 use Prim.Native.Nat.{ℕ, _≤_, _<_}
 use mathlib.Core.Path.{_≡_, sym, ap, subst, _∙_}
 use mathlib.Core.Bool.{false}
 use mathlib.Core.List.{List, [], _∷_}
 use native.Mathlib.Omega.{arith}
 use lib.ListN.{getD}
-use Rattle.definitions.specs.Arena.{Arena, stackLength}
-use Rattle.definitions.specs.Check.{misshapen, verdict, WellFormed}
+use Rattle.definitions.specs.Arena.{Arena}
+use Rattle.definitions.specs.Check.{misshapen, verdict}
 use Rattle.definitions.specs.Reply.{Reply}
 use Rattle.definitions.specs.Calls.{Made, arenaAfter}
 use Rattle.definitions.proofs.Tests.{by-test}
-use Rattle.statements.specs.SmallArenas.{IsSmall, entry, lentOn, GivesSmall}
-use Rattle.well_formed.proofs.WellFormed.{check-passes-exactly-if-well-formed}
+use Rattle.statements.specs.SmallArenas.{entry, lentOn, GivesSmall}
 use Rattle.all_small.specs.SmallArenas.{smallArenas}
 use Rattle.all_small.specs.SmallArena.{smallArena}
-use Rattle.all_small.proofs.SmallCall.{wrong-lengths, small-found-exactly, refusal-finds-none, gives-small}
+use Rattle.all_small.proofs.SmallCall.{wrong-lengths, small-found-exactly, refusal-finds-none, gives-small, held-with-room}
 use Rattle.every_call.proofs.EveryCallKeeps.{any-calls-keep}
 
 module _ (limit : ℕ) (a : Arena) (index : ℕ) (r : Reply) (p : r ≡ smallArena limit a index) where
@@ -36,8 +35,14 @@ module _ (limit : ℕ) (a : Arena) (index : ℕ) (r : Reply) (p : r ≡ smallAre
         let f = small-found-exactly limit a index right-lengths .0 found-there in
         (f .0, subst (λ (s : Reply). GivesSmall limit (entry smallArenas index) a s) (sym p) (gives-small limit h a index right-lengths (f .0) (f .1)))
 
-    pub calls-after-small : (top : ℕ) (ms : List Made) → WellFormed limit (arenaAfter limit top ms (lentOn (getD (r .fields) 1 0) (r .arena)))
+    -- be it lent on alone, or the columns as a whole
+    pub calls-after-small : (top : ℕ) (ms : List Made) →
+        (verdict limit (arenaAfter limit top ms (lentOn (getD (r .fields) 1 0) (r .arena))) ≡ 0)
+        × (verdict limit (arenaAfter limit top ms (r .arena)) ≡ 0)
     calls-after-small top ms =
+        let f = small-found-exactly limit a index right-lengths .0 found-there in
         let g = small-by-contract .1 in
-        let same : lentOn (getD (r .fields) 1 0) (r .arena) ≡ entry smallArenas index = ap (λ (fs : List ℕ). lentOn (getD fs 1 0) (r .arena)) (g .fields) ∙ g .lent-on in
-        rw same (check-passes-exactly-if-well-formed limit (arenaAfter limit top ms (entry smallArenas index)) .0 (any-calls-keep limit top ms (entry smallArenas index) (g .small .passes)))
+        let same : lentOn (getD (r .fields) 1 0) (r .arena) ≡ entry smallArenas index = ap (λ (fs : List ℕ). lentOn (getD fs 1 0) (r .arena)) (g .fields) ∙ g .lent-on in (
+          rw same (any-calls-keep limit top ms (entry smallArenas index) (g .small .passes)),
+          any-calls-keep limit top ms (r .arena) (ap (λ (s : Reply). verdict limit (s .arena)) p ∙ held-with-room limit h a index right-lengths (f .0) (f .1)),
+        )

@@ -20,7 +20,7 @@ use Rattle.definitions.proofs.Parts.{at-take, settled-reads, length-settled}
 use Rattle.definitions.proofs.Relisted.{links-to-highest, highest-within, length-threaded, threaded-other, threaded-linked}
 use Rattle.kept.proofs.Neighbours.{side-agrees}
 use Rattle.kept.proofs.Edits.{long-next}
-use Rattle.kept.proofs.Header.{four-words}
+use Rattle.definitions.proofs.Header.{four-words}
 
 -- a column of which the slots up to m stay, in a stack of n slots
 module _ (m n : ℕ) (fewer : m ≤ n) (xs old : List ℕ) (long : n ≤ length xs) where

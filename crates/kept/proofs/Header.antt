@@ -1,26 +1,17 @@
--- A header of four words taken apart, so that reading and writing its words computes; and the calls that write only the header. Assumes nothing.
+-- The calls that write only the header. Assumes nothing.
 use Prim.Native.Nat.{ℕ, _≤_}
 use mathlib.Core.Path.{_≡_}
 use mathlib.Core.Bool.{false}
 use mathlib.Core.List.{List, [], _∷_}
 use native.Mathlib.Omega.{arith}
-use lib.ListN.{length}
 use lib.Dec.{eqb, ltb}
 use borrow.Author.Tests.{ltb-false}
-use Rattle.definitions.specs.Arena.{Arena, arena, headerWords, current, withHeader, withCurrent}
+use Rattle.definitions.specs.Arena.{Arena, current, withHeader, withCurrent}
 use Rattle.definitions.specs.Check.{WellFormed}
 use Rattle.definitions.specs.Edit.{nextGeneration, setGeneration, incGeneration}
 use Rattle.definitions.proofs.Tests.{by-test}
+use Rattle.definitions.proofs.Header.{four-words}
 use Rattle.kept.proofs.Edits.{either-keeps}
-
--- what holds of four words, whatever they are, holds of the header
-pub four-words : (P : List ℕ → Type 0) (h : List ℕ) → length h ≡ headerWords → ((n k r g : ℕ) → P (n ∷ k ∷ r ∷ g ∷ [])) → P h
-four-words P [] e f = absurd (omega arith)
-four-words P (n ∷ []) e f = absurd (omega arith)
-four-words P (n ∷ k ∷ []) e f = absurd (omega arith)
-four-words P (n ∷ k ∷ r ∷ []) e f = absurd (omega arith)
-four-words P (n ∷ k ∷ r ∷ g ∷ []) e f = f n k r g
-four-words P (n ∷ k ∷ r ∷ g ∷ x ∷ xs) e f = absurd (omega arith)
 
 -- another generation, of 2 or more
 withCurrent-keeps : (limit : ℕ) (a : Arena) (g : ℕ) → WellFormed limit a → 2 ≤ g → WellFormed limit (withHeader a (withCurrent g (a .header)))

@@ -20,7 +20,7 @@ use Rattle.definitions.proofs.Count.{In, in-here, in-there}
 use Rattle.definitions.proofs.Linked.{linked-agree}
 use Rattle.definitions.proofs.LinkCount.{one-link-fewer}
 use Rattle.chains.proofs.Links.{Link, well-formed-linked}
-use Rattle.kept.proofs.Header.{four-words}
+use Rattle.definitions.proofs.Header.{four-words}
 use Rattle.definitions.specs.Insert.{InsertKind, Place, nowhere, between, placeOf, newSlot, isFull, rootAfter, headerAfter, inserted, insertAt, insert, Coded, kind, unknown, insertCoded}
 use Rattle.kept.proofs.PutInColumn.{Column, column, put-in}
 use Rattle.kept.proofs.PutIn.{Gap, joined, apart, itself, u-within, v-within, PutIn, fits-if-placed, gap-of}

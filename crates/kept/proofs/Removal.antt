@@ -25,7 +25,8 @@ use Rattle.definitions.proofs.LinkCount.{one-link-fewer}
 use Rattle.definitions.proofs.Pointers.{fresh-link}
 use Rattle.kept.proofs.Neighbours.{taken-out}
 use Rattle.kept.proofs.Edits.{either-keeps, links-within, long-prev, long-next}
-use Rattle.kept.proofs.Header.{four-words, nextGeneration-two}
+use Rattle.definitions.proofs.Header.{four-words}
+use Rattle.kept.proofs.Header.{nextGeneration-two}
 
 -- link s of an arena whose header is taken apart
 module _ (limit top : ℕ) (ps ns gs vs : List ℕ) (n k r g s : ℕ) (ok : WellFormed limit (arena ps ns gs vs (n ∷ k ∷ r ∷ g ∷ []))) (ls : allocated gs n s ≡ true) where

@@ -13,6 +13,7 @@ use Rattle.definitions.specs.Arena.{Arena, capacity, stackLength, linkCount, ro
 use Rattle.statements.specs.Chains.{Renaming}
 use Rattle.definitions.specs.Check.{Neighbour, Freelist, WellFormed}
 use Rattle.definitions.specs.Compress.{compressedHeader, place, relocate}
+use Rattle.definitions.proofs.Header.{four-words}
 use Rattle.definitions.proofs.Columns.{at-zero}
 use Rattle.definitions.proofs.Slots.{allocated-yes, count-slots-in, length-slots}
 use Rattle.definitions.proofs.Count.{in-slots, not-in-nil}
@@ -23,12 +24,7 @@ use Rattle.renaming.proofs.Orders.{OrderOf, order-size, order-within, o
 
 -- the header after a compression of n links, word by word
 pub compressed-header : (n g : ℕ) (h : List ℕ) → length h ≡ 4 → compressedHeader n g h ≡ n ∷ n ∷ 0 ∷ g ∷ []
-compressed-header n g [] e = absurd (omega arith)
-compressed-header n g (a ∷ []) e = absurd (omega arith)
-compressed-header n g (a ∷ b ∷ []) e = absurd (omega arith)
-compressed-header n g (a ∷ b ∷ c ∷ []) e = absurd (omega arith)
-compressed-header n g (a ∷ b ∷ c ∷ d ∷ []) e = refl
-compressed-header n g (a ∷ b ∷ c ∷ d ∷ x ∷ h) e = absurd (omega arith)
+compressed-header n g h e = four-words (λ (h : List ℕ). compressedHeader n g h ≡ n ∷ n ∷ 0 ∷ g ∷ []) h e (λ a b c d. refl)
 
 -- a column that is filled from the order
 pub filled-reads : (n : ℕ) (f : ℕ → ℕ) (w old : List ℕ) (s : ℕ) → 1 ≤ s → s ≤ length w → at (settled n (map f w) old) s ≡ f (at w s)

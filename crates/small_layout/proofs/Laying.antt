@@ -1,12 +1,13 @@
 -- A column into which the words of the first slots are laid, one after the other, and a whole arena laid column by column. Assumes nothing.
-use Prim.Native.Nat.{ℕ, zero, suc, _+_, _/_, _≤_, _<_}
+use Prim.Native.Nat.{ℕ, _+_, _/_, _≤_, _<_}
 use mathlib.Core.Path.{_≡_, refl, sym, ap, _∙_}
-use mathlib.Core.List.{List, [], _∷_, _++_}
+use mathlib.Core.List.{List, [], _∷_}
 use native.Mathlib.Omega.{arith}
 use native.Mathlib.Numerals.{add-one}
 use lib.ListN.{length, set}
 use Rattle.definitions.specs.Columns.{written}
 use Rattle.definitions.specs.Arena.{Arena, arena, headerWords}
+use Rattle.definitions.proofs.Header.{four-words}
 use Rattle.definitions.proofs.Written.{written-none, length-written, written-more}
 use Rattle.all_small.specs.SmallArena.{laidIn}
 use Rattle.all_small.proofs.Packed.{digit, after, digits, unpacked, length-digits}
@@ -40,12 +41,7 @@ module _ {weight rows n : ℕ} {old now : List ℕ} {rest i : ℕ} (h : Laying w
 
 -- a header of four words, each written
 pub header-laid : (h : List ℕ) (n k r g : ℕ) → length h ≡ headerWords → set (set (set (set h 0 n) 1 k) 2 r) 3 g ≡ n ∷ k ∷ r ∷ g ∷ []
-header-laid [] n k r g e = absurd (omega arith)
-header-laid (a ∷ []) n k r g e = absurd (omega arith)
-header-laid (a ∷ b ∷ []) n k r g e = absurd (omega arith)
-header-laid (a ∷ b ∷ c ∷ []) n k r g e = absurd (omega arith)
-header-laid (a ∷ b ∷ c ∷ d ∷ []) n k r g e = refl
-header-laid (a ∷ b ∷ c ∷ d ∷ x ∷ h) n k r g e = absurd (omega arith)
+header-laid h n k r g e = four-words (λ (h : List ℕ). set (set (set (set h 0 n) 1 k) 2 r) 3 g ≡ n ∷ k ∷ r ∷ g ∷ []) h e (λ a b c d. refl)
 
 -- the four columns and the header
 pub arena-laid : (p : ℕ) (a : Arena) {n : ℕ} {ps ns gs vs h : List ℕ} → n ≡ digit p 1

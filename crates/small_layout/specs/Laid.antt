@@ -1,5 +1,5 @@
 -- A small arena as the code lays it into columns and answers it (REFERENCE, Small arenas).
-use Prim.Native.Nat.{ℕ, _≤_}
+use Prim.Native.Nat.{_≤_}
 use mathlib.Core.Path.{_≡_}
 use mathlib.Core.List.{[], _∷_}
 use lib.ListN.{length}

@@ -8,14 +8,6 @@ ghost use Rattle.all_small.proofs.Packed.{unpacked};
 // How many small arenas there are.
 pub const SMALL_ARENAS: u32 = 90;
 
-// The small arena of an index, packed.
-pub fn packed_arena(index: usize) -> u32
-    requires { ⌜ index < 90 ⌝ }
-    ensures { λ r. ⌜ unpacked r ≡ entry smallArenas index ⌝ }
-{
-    TABLE[index]
-}
-
 // All small arenas in their order. The digits of an entry to the base 4, from the lowest on, are its stack length, link count and root, and then, slot by
 // slot, prev, next, generation and payload.
 const TABLE: [u32; 90] = [
@@ -110,3 +102,11 @@ const TABLE: [u32; 90] = [
     53024955,
     53041851,
 ];
+
+// The small arena of an index, packed.
+pub fn packed_arena(index: usize) -> u32
+    requires { ⌜ index < 90 ⌝ }
+    ensures { λ r. ⌜ unpacked r ≡ entry smallArenas index ⌝ }
+{
+    TABLE[index]
+}

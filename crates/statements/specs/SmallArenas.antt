@@ -49,8 +49,8 @@ unfoldable pub tally : List Arena → ℕ → ℕ
 tally [] n = 0
 tally (a ∷ arenas) n = cond (eqb (stackLength a) n) 1 0 + tally arenas n
 
--- a list of 90 arenas, 1, 3, 13 and 73 by stack length, of which each comes before all that follow it and each is small; and every small arena is one of
--- them. So none is missing, and none is there twice (REFERENCE, Small arenas)
+-- a list that has all small arenas: 90 of them, so many with no slot, one, two and three; it rises, what is on it is small, and what is small is on it. As it
+-- rises, nothing is on it twice (REFERENCE, Small arenas)
 pub record AllSmall (limit : ℕ) (arenas : List Arena) : Type 0 where
   pub size : length arenas ≡ 90
   pub by-length : map (tally arenas) (0 ∷ 1 ∷ 2 ∷ 3 ∷ []) ≡ 1 ∷ 3 ∷ 13 ∷ 73 ∷ []

@@ -15,7 +15,7 @@ use Rattle.definitions.specs.Check.{misshapen, freelistWalk, namesBack, neighbo
 use Rattle.definitions.proofs.Tests.{by-test}
 use Rattle.definitions.proofs.Slots.{allocated-past, allocated-within}
 use Rattle.definitions.proofs.Count.{keep-agree}
-use Rattle.definitions.proofs.Shaped.{countsVerdict, interlinksFine}
+use Rattle.definitions.proofs.Shaped.{Shaped, countsVerdict, interlinksFine, passed-counts, passed-links, passes}
 use Rattle.definitions.proofs.Broken.{lowestBroken, first-lowest, slot-with-eleven, side-with-eleven, slot-without, side-without}
 use Rattle.well_formed.proofs.Verdict.{eleven-broken, fails-at-links}
 
@@ -67,25 +67,32 @@ module _ (gs hs : List ℕ) (n : ℕ) (generation : AgreeTo n gs hs) where
       same-all-fine zero = refl
       same-all-fine (suc k) = rw (same-fine (suc k), same-all-fine k) refl
 
-module _ (a b : Arena) (same : SameRead a b) where
+-- two arenas of one header that agree on the words of the stack which are read
+module _ (a b : Arena) (header : a .header ≡ b .header) (generation : AgreeTo (stackLength a) (a .generation) (b .generation)) (next : AgreeTo (stackLength a) (a .next) (b .next))
+    (prev : (s : ℕ) → isLink a s ≡ true → at (a .prev) s ≡ at (b .prev) s) where
   same-counts-verdict : countsVerdict a ≡ countsVerdict b
   same-counts-verdict =
-      same-counts (a .generation) (b .generation) (stackLength a) (same .generation) (a .next) (b .next) (same .next) (linkCount a) (root a)
-      ∙ ap (λ (h : List ℕ). countsOf (b .next) (b .generation) (getD h 0 0) (getD h 1 0) (getD h 2 0)) (same .header)
+      same-counts (a .generation) (b .generation) (stackLength a) generation (a .next) (b .next) next (linkCount a) (root a)
+      ∙ ap (λ (h : List ℕ). countsOf (b .next) (b .generation) (getD h 0 0) (getD h 1 0) (getD h 2 0)) header
 
   same-interlinks : interlinksFine a ≡ interlinksFine b
   same-interlinks =
-      same-all-fine (a .generation) (b .generation) (stackLength a) (same .generation) (a .next) (b .next) (same .next) (a .prev) (b .prev) (same .prev) (stackLength a)
-      ∙ ap (λ (h : List ℕ). allFine (b .prev) (b .next) (b .generation) (getD h 0 0) (getD h 0 0)) (same .header)
+      same-all-fine (a .generation) (b .generation) (stackLength a) generation (a .next) (b .next) next (a .prev) (b .prev) prev (stackLength a)
+      ∙ ap (λ (h : List ℕ). allFine (b .prev) (b .next) (b .generation) (getD h 0 0) (getD h 0 0)) header
 
-  same-shape : (limit : ℕ) → misshapen limit a ≡ misshapen limit b
-  unfolding misshapen
-  same-shape limit = rw (same .header, same .prev-length, same .next-length, same .generation-length, same .payload-length) refl
+  -- so the second passes where the first does, however long its columns are, if its stack fits into them
+  pub passes-in-columns : (limit other : ℕ) → Shaped other b → verdict limit a ≡ 0 → verdict other b ≡ 0
+  passes-in-columns limit other shaped e = passes other b shaped (sym same-counts-verdict ∙ passed-counts limit a e) (sym same-interlinks ∙ passed-links limit a e)
+
+same-shape : (a b : Arena) → SameRead a b → (limit : ℕ) → misshapen limit a ≡ misshapen limit b
+unfolding misshapen
+same-shape a b same limit = rw (same .header, same .prev-length, same .next-length, same .generation-length, same .payload-length) refl
 
 pub verdict-reads-only : (limit : ℕ) (a b : Arena) → SameRead a b → verdict limit a ≡ verdict limit b
 unfolding verdict
 verdict-reads-only limit a b same =
-    rw (same-counts-verdict a b same, same-interlinks a b same, same-shape a b same limit, same .header, same .prev-length) refl
+    rw (same-counts-verdict a b (same .header) (same .generation) (same .next) (same .prev), same-interlinks a b (same .header) (same .generation) (same .next) (same .prev), same-shape a b same limit, same .header, same .prev-length)
+    refl
 
 -- slot and side: the slots at which rule 11 fails are the same, and at the first of them prev is read alike, since that is a link
 module _ (a b : Arena) (same : SameRead a b) where

@@ -4,7 +4,7 @@ use Prim.Native.Nat.{ℕ, zero, suc, _≤_, _<_}
 use mathlib.Core.Path.{_≡_, refl, sym, ap, _∙_}
 use mathlib.Core.Logic.{_↔_}
 use mathlib.Core.Bool.{true, false, true≢false}
-use mathlib.Core.List.{List, [], _∷_, _++_}
+use mathlib.Core.List.{List, [], _∷_, _++_, map}
 use native.Mathlib.Omega.{arith}
 use lib.ListN.{length, getD, take, drop, take-append-drop}
 use lib.Dec.{eqb, ltb}
@@ -205,22 +205,28 @@ is-small-whole limit a = (
   λ h. record { passes = h .0; full = h .1; short = h .2; current-two = h .3; generation-two = h .4; payload-own = h .5; prev-unread = h .6; payload-unread = h .7 },
 )
 
-pub all-small-whole : (limit : ℕ) (arenas : List Arena) → AllSmall limit arenas →
-    (length arenas ≡ 90)
+-- a list is said to be whole, and no other one is: no less than this, and no more
+pub all-small-whole : (limit : ℕ) (arenas : List Arena) →
+    AllSmall limit arenas
+    ↔ ((length arenas ≡ 90)
     × (tally arenas 0 ≡ 1)
     × (tally arenas 1 ≡ 3)
     × (tally arenas 2 ≡ 13)
     × (tally arenas 3 ≡ 73)
     × ((i j : ℕ) → i < j → j < length arenas → before (entry arenas i) (entry arenas j) ≡ true)
     × ((i : ℕ) → i < length arenas → IsSmall limit (entry arenas i))
-    × ((a : Arena) → IsSmall limit a → (i : ℕ) × (i < length arenas) × (entry arenas i ≡ a))
-all-small-whole limit arenas w = (w .size, of 0, of 1, of 2, of 3, w .rising, w .small, w .every)
+    × ((a : Arena) → IsSmall limit a → (i : ℕ) × (i < length arenas) × (entry arenas i ≡ a)))
+all-small-whole limit arenas = (
+  λ d. (d .size, of (d .by-length) 0, of (d .by-length) 1, of (d .by-length) 2, of (d .by-length) 3, d .rising, d .small, d .every),
+  λ h. record { size = h .0; by-length = rw (h .1, h .2, h .3, h .4) refl; rising = h .5; small = h .6; every = h .7 },
+)
   where
-    of : (n : ℕ) → getD (tally arenas 0 ∷ tally arenas 1 ∷ tally arenas 2 ∷ tally arenas 3 ∷ []) n 0 ≡ getD (1 ∷ 3 ∷ 13 ∷ 73 ∷ []) n 0
-    of n = ap (λ (l : List ℕ). getD l n 0) (w .by-length)
+    of : map (tally arenas) (0 ∷ 1 ∷ 2 ∷ 3 ∷ []) ≡ 1 ∷ 3 ∷ 13 ∷ 73 ∷ [] → (n : ℕ) → getD (tally arenas 0 ∷ tally arenas 1 ∷ tally arenas 2 ∷ tally arenas 3 ∷ []) n 0 ≡ getD (1 ∷ 3 ∷ 13 ∷ 73 ∷ []) n 0
+    of e n = ap (λ (l : List ℕ). getD l n 0) e
 
-pub gives-small-whole : (limit : ℕ) (e a : Arena) (r : Reply) → GivesSmall limit e a r →
-    (r .number ≡ 0)
+pub gives-small-whole : (limit : ℕ) (e a : Arena) (r : Reply) →
+    GivesSmall limit e a r
+    ↔ ((r .number ≡ 0)
     × (r .fields ≡ 1 ∷ stackLength e ∷ [])
     × (take (stackLength e) (r .arena .prev) ≡ e .prev)
     × (take (stackLength e) (r .arena .next) ≡ e .next)
@@ -231,21 +237,30 @@ pub gives-small-whole : (limit : ℕ) (e a : Arena) (r : Reply) → GivesSmall l
     × (drop (stackLength e) (r .arena .prev) ≡ drop (stackLength e) (a .prev))
     × (drop (stackLength e) (r .arena .next) ≡ drop (stackLength e) (a .next))
     × (drop (stackLength e) (r .arena .generation) ≡ drop (stackLength e) (a .generation))
-    × (drop (stackLength e) (r .arena .payload) ≡ drop (stackLength e) (a .payload))
+    × (drop (stackLength e) (r .arena .payload) ≡ drop (stackLength e) (a .payload)))
 unfolding lentOn behind
-gives-small-whole limit e a r w = (
-  w .number,
-  w .fields,
-  ap (λ (b : Arena). b .prev) (w .lent-on),
-  ap (λ (b : Arena). b .next) (w .lent-on),
-  ap (λ (b : Arena). b .generation) (w .lent-on),
-  ap (λ (b : Arena). b .payload) (w .lent-on),
-  ap (λ (b : Arena). b .header) (w .lent-on),
-  w .small,
-  ap (λ (l : List (List ℕ)). getD l 0 []) (w .stays),
-  ap (λ (l : List (List ℕ)). getD l 1 []) (w .stays),
-  ap (λ (l : List (List ℕ)). getD l 2 []) (w .stays),
-  ap (λ (l : List (List ℕ)). getD l 3 []) (w .stays),
+gives-small-whole limit e a r = (
+  λ d. (
+    d .number,
+    d .fields,
+    ap (λ (b : Arena). b .prev) (d .lent-on),
+    ap (λ (b : Arena). b .next) (d .lent-on),
+    ap (λ (b : Arena). b .generation) (d .lent-on),
+    ap (λ (b : Arena). b .payload) (d .lent-on),
+    ap (λ (b : Arena). b .header) (d .lent-on),
+    d .small,
+    ap (λ (l : List (List ℕ)). getD l 0 []) (d .stays),
+    ap (λ (l : List (List ℕ)). getD l 1 []) (d .stays),
+    ap (λ (l : List (List ℕ)). getD l 2 []) (d .stays),
+    ap (λ (l : List (List ℕ)). getD l 3 []) (d .stays),
+  ),
+  λ h. record {
+    number = h .0;
+    fields = h .1;
+    lent-on = rw (h .2, h .3, h .4, h .5, h .6) refl;
+    small = h .7;
+    stays = rw (h .8, h .9, h .10, h .11) refl;
+  },
 )
 
 -- the fields leave no choice: every word that is left is known
@@ -255,7 +270,7 @@ pub gives-small-determines : (limit : ℕ) (e a : Arena) (r : Reply) → GivesSm
     × (r .arena .generation ≡ e .generation ++ drop (stackLength e) (a .generation))
     × (r .arena .payload ≡ e .payload ++ drop (stackLength e) (a .payload))
     × (r .arena .header ≡ e .header)
-gives-small-determines limit e a r w = let h = gives-small-whole limit e a r w in (joined (h .2) (h .8), joined (h .3) (h .9), joined (h .4) (h .10), joined (h .5) (h .11), h .6)
+gives-small-determines limit e a r w = let h = gives-small-whole limit e a r .0 w in (joined (h .2) (h .8), joined (h .3) (h .9), joined (h .4) (h .10), joined (h .5) (h .11), h .6)
   where
     joined : {now front rest : List ℕ} → take (stackLength e) now ≡ front → drop (stackLength e) now ≡ rest → now ≡ front ++ rest
     joined {now} p q = sym (take-append-drop (stackLength e) now) ∙ rw (p, q) refl
