@@ -1,7 +1,7 @@
 /* The proved calls of the chain arena, for C and C++ on x86-64 Linux. `bash archives OUT` writes the archives into the folder
  * OUT. docs/REFERENCE.md is the manual; the sections named below in brackets are its own. Licence: MIT OR Apache-2.0, NOTICE.
  *
- * An arena is lent as five slices, each a pointer and an element count. Slot s has index s - 1 in the columns:
+ * An arena is lent as five slices of words, each a pointer and an element count. Slot s has index s - 1 in the columns:
  *   prev, next   the neighbours of a link, 0 for none; the next of a free slot is the freelist pointer
  *   generation   the generation of a link; 0 in a free slot
  *   payload      the user's word
@@ -26,7 +26,7 @@
  * CHAIN_ARENA_OVERFLOWED for 100.
  *  number  name                  of every call, and from 1 on of calls on an arena; a call named below a meaning gives it too:
  *       0  DONE                  nothing is wrong: done
- *       1  SHAPE                 two columns differ in length or are longer than 65,535, or the header has not four words
+ *       1  SHAPE                 two columns differ in length or are longer than 1,048,576, or the header has not four words
  *                                  small_arena
  *       2  CURRENT_GENERATION    the current generation is 0 or 1
  *       3  OVER_CAPACITY         the stack length or the link count exceeds the capacity
@@ -100,6 +100,9 @@
 #define CHAIN_ARENA_FRAME_LINES 262u
 #define CHAIN_ARENA_FRAME_LINE_DOTS 341u
 #define CHAIN_ARENA_FRAME_DOTS 89342u
+
+/* How many words a column may have at most: the check refuses longer ones. (Arena) */
+#define CHAIN_ARENA_CAPACITY_LIMIT 1048576u
 
 /* How many words the header, a command, the item of a drain and the item of an order-preserving compression have. */
 #define CHAIN_ARENA_HEADER_WORDS 4u
@@ -256,53 +259,53 @@ typedef struct chain_arena_small_arena_result {
 
 /* Whether the arena can be worked with: 0, else the first rule that fails, 1 to 11. (Check) */
 chain_arena_plain_result chain_arena_check(
-    const uint16_t *prev, size_t prev_len,
-    const uint16_t *next, size_t next_len,
+    const uint32_t *prev, size_t prev_len,
+    const uint32_t *next, size_t next_len,
     const uint32_t *generation, size_t generation_len,
     const uint32_t *payload, size_t payload_len,
     const uint32_t *header, size_t header_len);
 
 /* The link at p and its neighbours with their generations. 12: p is stale. (Reading) */
 chain_arena_link_result chain_arena_get_link(
-    const uint16_t *prev, size_t prev_len,
-    const uint16_t *next, size_t next_len,
+    const uint32_t *prev, size_t prev_len,
+    const uint32_t *next, size_t next_len,
     const uint32_t *generation, size_t generation_len,
     const uint32_t *payload, size_t payload_len,
     const uint32_t *header, size_t header_len,
-    uint16_t p_slot, uint32_t p_generation);
+    uint32_t p_slot, uint32_t p_generation);
 
 /* The link at p. 12: p is stale. */
 chain_arena_link_no_gen_result chain_arena_get_link_no_gen(
-    const uint16_t *prev, size_t prev_len,
-    const uint16_t *next, size_t next_len,
+    const uint32_t *prev, size_t prev_len,
+    const uint32_t *next, size_t next_len,
     const uint32_t *generation, size_t generation_len,
     const uint32_t *payload, size_t payload_len,
     const uint32_t *header, size_t header_len,
-    uint16_t p_slot, uint32_t p_generation);
+    uint32_t p_slot, uint32_t p_generation);
 
 /* Whether the next of p_prev is p_next; 0 if one of them is stale. */
 chain_arena_neighbors_result chain_arena_are_neighbors(
-    const uint16_t *prev, size_t prev_len,
-    const uint16_t *next, size_t next_len,
+    const uint32_t *prev, size_t prev_len,
+    const uint32_t *next, size_t next_len,
     const uint32_t *generation, size_t generation_len,
     const uint32_t *payload, size_t payload_len,
     const uint32_t *header, size_t header_len,
-    uint16_t p_prev_slot, uint32_t p_prev_generation, uint16_t p_next_slot, uint32_t p_next_generation);
+    uint32_t p_prev_slot, uint32_t p_prev_generation, uint32_t p_next_slot, uint32_t p_next_generation);
 
 /* A walk that begins at p. 12: p is stale. (Walk) */
 chain_arena_walk_result chain_arena_walk_start(
-    const uint16_t *prev, size_t prev_len,
-    const uint16_t *next, size_t next_len,
+    const uint32_t *prev, size_t prev_len,
+    const uint32_t *next, size_t next_len,
     const uint32_t *generation, size_t generation_len,
     const uint32_t *payload, size_t payload_len,
     const uint32_t *header, size_t header_len,
-    uint16_t p_slot, uint32_t p_generation);
+    uint32_t p_slot, uint32_t p_generation);
 
 /* One step of a walk: the link at the position, or none, and the state after it. A walk goes from its start to the end of
  * the chain, then from the link before the start back to the beginning; a closed chain is gone round once. */
 chain_arena_step_result chain_arena_walk_step(
-    const uint16_t *prev, size_t prev_len,
-    const uint16_t *next, size_t next_len,
+    const uint32_t *prev, size_t prev_len,
+    const uint32_t *next, size_t next_len,
     const uint32_t *generation, size_t generation_len,
     const uint32_t *payload, size_t payload_len,
     const uint32_t *header, size_t header_len,
@@ -319,103 +322,103 @@ chain_arena_line_dots_result chain_arena_line_dots(
 /* How many links of p's chain are due in the window from a dot up to, but not including, another one or the end of the frame.
  * 12: p is stale; 19: the frame has no such window. (Frame clock) */
 chain_arena_due_result chain_arena_due_count(
-    const uint16_t *prev, size_t prev_len,
-    const uint16_t *next, size_t next_len,
+    const uint32_t *prev, size_t prev_len,
+    const uint32_t *next, size_t next_len,
     const uint32_t *generation, size_t generation_len,
     const uint32_t *payload, size_t payload_len,
     const uint32_t *header, size_t header_len,
-    uint16_t p_slot, uint32_t p_generation, uint32_t from, uint32_t to);
+    uint32_t p_slot, uint32_t p_generation, uint32_t from, uint32_t to);
 
 /* Writes the slots of those links into the report, in the order of a walk from p, and answers how many they are. 12: p is
  * stale; 19: the frame has no such window; 14: the report has fewer words than the chain has links, due or not.
  * (Frame clock) */
 chain_arena_due_result chain_arena_due_events(
-    const uint16_t *prev, size_t prev_len,
-    const uint16_t *next, size_t next_len,
+    const uint32_t *prev, size_t prev_len,
+    const uint32_t *next, size_t next_len,
     const uint32_t *generation, size_t generation_len,
     const uint32_t *payload, size_t payload_len,
     const uint32_t *header, size_t header_len,
-    uint16_t p_slot, uint32_t p_generation, uint32_t from, uint32_t to,
-    uint16_t *report, size_t report_len);
+    uint32_t p_slot, uint32_t p_generation, uint32_t from, uint32_t to,
+    uint32_t *report, size_t report_len);
 
 /* Level Two: liblevel_two.a */
 
 /* Makes p_next the next of p_prev. First 12 or 13: p_prev is stale, or has a next; then 12 or 13: p_next is stale, or has a
  * prev. (Connect) */
 chain_arena_plain_result chain_arena_connect(
-    uint16_t *prev, size_t prev_len,
-    uint16_t *next, size_t next_len,
+    uint32_t *prev, size_t prev_len,
+    uint32_t *next, size_t next_len,
     const uint32_t *generation, size_t generation_len,
     const uint32_t *payload, size_t payload_len,
     const uint32_t *header, size_t header_len,
-    uint16_t p_prev_slot, uint32_t p_prev_generation, uint16_t p_next_slot, uint32_t p_next_generation);
+    uint32_t p_prev_slot, uint32_t p_prev_generation, uint32_t p_next_slot, uint32_t p_next_generation);
 
 /* Parts the link at p from the one before it. 12: p is stale; 13: there is none. (Break) */
 chain_arena_plain_result chain_arena_break_prev(
-    uint16_t *prev, size_t prev_len,
-    uint16_t *next, size_t next_len,
+    uint32_t *prev, size_t prev_len,
+    uint32_t *next, size_t next_len,
     const uint32_t *generation, size_t generation_len,
     const uint32_t *payload, size_t payload_len,
     const uint32_t *header, size_t header_len,
-    uint16_t p_slot, uint32_t p_generation);
+    uint32_t p_slot, uint32_t p_generation);
 
 /* Parts the link at p from the one after it. 12: p is stale; 13: there is none. (Break) */
 chain_arena_plain_result chain_arena_break_next(
-    uint16_t *prev, size_t prev_len,
-    uint16_t *next, size_t next_len,
+    uint32_t *prev, size_t prev_len,
+    uint32_t *next, size_t next_len,
     const uint32_t *generation, size_t generation_len,
     const uint32_t *payload, size_t payload_len,
     const uint32_t *header, size_t header_len,
-    uint16_t p_slot, uint32_t p_generation);
+    uint32_t p_slot, uint32_t p_generation);
 
 /* Gives each of the links at p0 and p1 the other one's next. 12: one is stale; 13: one has no next. (Exchange) */
 chain_arena_plain_result chain_arena_exchange_next(
-    uint16_t *prev, size_t prev_len,
-    uint16_t *next, size_t next_len,
+    uint32_t *prev, size_t prev_len,
+    uint32_t *next, size_t next_len,
     const uint32_t *generation, size_t generation_len,
     const uint32_t *payload, size_t payload_len,
     const uint32_t *header, size_t header_len,
-    uint16_t p0_slot, uint32_t p0_generation, uint16_t p1_slot, uint32_t p1_generation);
+    uint32_t p0_slot, uint32_t p0_generation, uint32_t p1_slot, uint32_t p1_generation);
 
 /* Inserts a link with a payload where the kind says, CHAIN_ARENA_INSERT_.., and answers its pointer. A pointer that the kind
  * does not name is ignored. The slot is the freelist's root, or the one after the stack if no slot is free; the generation
  * is the current one, which stays. 16: there is no such kind; 17: what it asks does not hold; 18: there is no room.
  * (Insert) */
 chain_arena_insert_result chain_arena_insert(
-    uint16_t *prev, size_t prev_len,
-    uint16_t *next, size_t next_len,
+    uint32_t *prev, size_t prev_len,
+    uint32_t *next, size_t next_len,
     uint32_t *generation, size_t generation_len,
     uint32_t *payload, size_t payload_len,
     uint32_t *header, size_t header_len,
     uint32_t kind,
-    uint16_t p_slot, uint32_t p_generation, uint16_t q_slot, uint32_t q_generation,
+    uint32_t p_slot, uint32_t p_generation, uint32_t q_slot, uint32_t q_generation,
     uint32_t new_payload);
 
 /* Takes the link at p out, joins its neighbours, raises the generation (100: it overflowed) and answers what the link was.
  * 12: p is stale. (Remove) */
 chain_arena_link_no_gen_result chain_arena_remove(
-    uint16_t *prev, size_t prev_len,
-    uint16_t *next, size_t next_len,
+    uint32_t *prev, size_t prev_len,
+    uint32_t *next, size_t next_len,
     uint32_t *generation, size_t generation_len,
     uint32_t *payload, size_t payload_len,
     uint32_t *header, size_t header_len,
-    uint16_t p_slot, uint32_t p_generation);
+    uint32_t p_slot, uint32_t p_generation);
 
 /* Removes all links of p's chain in the order of a walk from p. The report gets five words for each: slot, generation, prev
  * and next when its turn comes, payload. 12: p is stale; 14: the report is too short. (Drain) */
 chain_arena_drain_result chain_arena_drain(
-    uint16_t *prev, size_t prev_len,
-    uint16_t *next, size_t next_len,
+    uint32_t *prev, size_t prev_len,
+    uint32_t *next, size_t next_len,
     uint32_t *generation, size_t generation_len,
     uint32_t *payload, size_t payload_len,
     uint32_t *header, size_t header_len,
-    uint16_t p_slot, uint32_t p_generation,
+    uint32_t p_slot, uint32_t p_generation,
     uint32_t *report, size_t report_len);
 
 /* Sets the current generation. 15: it was to be 0 or 1. (Generation) */
 chain_arena_plain_result chain_arena_set_generation(
-    const uint16_t *prev, size_t prev_len,
-    const uint16_t *next, size_t next_len,
+    const uint32_t *prev, size_t prev_len,
+    const uint32_t *next, size_t next_len,
     const uint32_t *generation, size_t generation_len,
     const uint32_t *payload, size_t payload_len,
     uint32_t *header, size_t header_len,
@@ -423,16 +426,16 @@ chain_arena_plain_result chain_arena_set_generation(
 
 /* Raises the current generation. 100: it overflowed, from 4,294,967,295 to 2. (Generation) */
 chain_arena_plain_result chain_arena_inc_generation(
-    const uint16_t *prev, size_t prev_len,
-    const uint16_t *next, size_t next_len,
+    const uint32_t *prev, size_t prev_len,
+    const uint32_t *next, size_t next_len,
     const uint32_t *generation, size_t generation_len,
     const uint32_t *payload, size_t payload_len,
     uint32_t *header, size_t header_len);
 
 /* Pops the free slots above the highest link and links the others in rising order from the root on. (Freelist) */
 chain_arena_plain_result chain_arena_canonicalize_freelist(
-    uint16_t *prev, size_t prev_len,
-    uint16_t *next, size_t next_len,
+    uint32_t *prev, size_t prev_len,
+    uint32_t *next, size_t next_len,
     uint32_t *generation, size_t generation_len,
     uint32_t *payload, size_t payload_len,
     uint32_t *header, size_t header_len);
@@ -450,8 +453,8 @@ chain_arena_plain_result chain_arena_canonicalize_freelist(
  * after the stack, with the current generation; so later commands can name it. Of the whole run
  * 16: the number of command words is not divisible by six; 14: there are more commands than answer words. (Run) */
 chain_arena_plain_result chain_arena_run(
-    uint16_t *prev, size_t prev_len,
-    uint16_t *next, size_t next_len,
+    uint32_t *prev, size_t prev_len,
+    uint32_t *next, size_t next_len,
     uint32_t *generation, size_t generation_len,
     uint32_t *payload, size_t payload_len,
     uint32_t *header, size_t header_len,
@@ -464,8 +467,8 @@ chain_arena_plain_result chain_arena_run(
  * generation before, and its slot and generation afterwards. The generation is raised (100: it overflowed), but stays if
  * there is no link; if reset is not 0 it becomes 2. 14: the report is too short. (Order-preserving compression) */
 chain_arena_plain_result chain_arena_compress_with(
-    uint16_t *prev, size_t prev_len,
-    uint16_t *next, size_t next_len,
+    uint32_t *prev, size_t prev_len,
+    uint32_t *next, size_t next_len,
     uint32_t *generation, size_t generation_len,
     uint32_t *payload, size_t payload_len,
     uint32_t *header, size_t header_len,
@@ -477,13 +480,13 @@ chain_arena_plain_result chain_arena_compress_with(
  * stays if there is no link; if reset is not 0 it becomes 2. 14: the where-from column has not the columns' length.
  * (Canonical compression) */
 chain_arena_plain_result chain_arena_compress_canonical(
-    uint16_t *prev, size_t prev_len,
-    uint16_t *next, size_t next_len,
+    uint32_t *prev, size_t prev_len,
+    uint32_t *next, size_t next_len,
     uint32_t *generation, size_t generation_len,
     uint32_t *payload, size_t payload_len,
     uint32_t *header, size_t header_len,
     uint32_t reset,
-    uint16_t *where_from, size_t where_from_len);
+    uint32_t *where_from, size_t where_from_len);
 
 /* Small arenas: libsmall_arenas.a */
 
@@ -493,11 +496,11 @@ chain_arena_plain_result chain_arena_compress_canonical(
  * A small arena passes the check; its stack has at most three slots and fills the columns; its links and its header have
  * generation 2; the payload of a link is its slot; and what nobody reads is 0. The shorter stack comes first, then the lower
  * root; after that the words of slot 1, 2 and 3 decide, of each slot generation before prev and prev before next.
- * 1: two columns differ in length or are longer than 65,535, or the header has not four words; 14: there is such an arena, and
- * its stack is longer than the columns. (Small arenas) */
+ * 1: two columns differ in length or are longer than 1,048,576, or the header has not four words; 14: there is such an arena,
+ * and its stack is longer than the columns. (Small arenas) */
 chain_arena_small_arena_result chain_arena_small_arena(
-    uint16_t *prev, size_t prev_len,
-    uint16_t *next, size_t next_len,
+    uint32_t *prev, size_t prev_len,
+    uint32_t *next, size_t next_len,
     uint32_t *generation, size_t generation_len,
     uint32_t *payload, size_t payload_len,
     uint32_t *header, size_t header_len,

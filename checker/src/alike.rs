@@ -116,7 +116,37 @@ struct State {
     /// The state of the longest word that ends them all and ends elsewhere too; none for the empty word
     shorter: Option<usize>,
     /// The state after one more letter
-    onward: BTreeMap<u32, usize>,
+    onward: Onward,
+}
+
+/// States by letters. Of a long text most have one alone, for which a map would be large.
+#[derive(Clone, Default)]
+enum Onward {
+    #[default]
+    None,
+    One(u32, usize),
+    Many(BTreeMap<u32, usize>),
+}
+
+impl Onward {
+    /// The state of a letter.
+    fn get(&self, letter: u32) -> Option<usize> {
+        match self {
+            Self::None => None,
+            Self::One(only, state) => (*only == letter).then_some(*state),
+            Self::Many(states) => states.get(&letter).copied(),
+        }
+    }
+
+    /// Makes a state that of a letter.
+    fn insert(&mut self, letter: u32, state: usize) {
+        match self {
+            Self::None => *self = Self::One(letter, state),
+            Self::One(only, _) if *only == letter => *self = Self::One(letter, state),
+            Self::One(only, first) => *self = Self::Many([(*only, *first), (letter, state)].into()),
+            Self::Many(states) => drop(states.insert(letter, state)),
+        }
+    }
 }
 
 impl Occurrences {
@@ -132,7 +162,7 @@ impl Occurrences {
         let length = self.states[last].length + 1;
         let new = self.push(State { length, end: length, ..State::default() });
         let mut at = Some(last);
-        while let Some(state) = at.filter(|&state| !self.states[state].onward.contains_key(&letter)) {
+        while let Some(state) = at.filter(|&state| self.states[state].onward.get(letter).is_none()) {
             self.states[state].onward.insert(letter, new);
             at = self.states[state].shorter;
         }
@@ -142,14 +172,15 @@ impl Occurrences {
 
     /// The state of the longest word of a state with a letter behind it, and of no longer word.
     fn exactly(&mut self, state: usize, letter: u32) -> usize {
-        let (to, length) = (self.states[state].onward[&letter], self.states[state].length + 1);
+        let State { length, onward, .. } = &self.states[state];
+        let (to, length) = (onward.get(letter).unwrap_or(0), length + 1);
         if self.states[to].length == length {
             return to;
         }
         let part = self.push(State { length, ..self.states[to].clone() });
         self.states[to].shorter = Some(part);
         let mut at = Some(state);
-        while let Some(state) = at.filter(|&state| self.states[state].onward.get(&letter) == Some(&to)) {
+        while let Some(state) = at.filter(|&state| self.states[state].onward.get(letter) == Some(to)) {
             self.states[state].onward.insert(letter, part);
             at = self.states[state].shorter;
         }
@@ -166,7 +197,7 @@ impl Occurrences {
     /// the word.
     fn beginning(&self, word: &[u32]) -> (usize, usize, usize) {
         let (mut state, mut length) = (0, 0);
-        while let Some(&to) = word.get(length).and_then(|letter| self.states[state].onward.get(letter)) {
+        while let Some(to) = word.get(length).and_then(|&letter| self.states[state].onward.get(letter)) {
             (state, length) = (to, length + 1);
         }
         (self.end(state, length), length, length)
@@ -190,7 +221,7 @@ impl Occurrences {
     /// The longest word that occurs among the ends of a word with a letter behind it.
     fn step(&self, mut state: usize, mut length: usize, letter: u32) -> (usize, usize) {
         loop {
-            if let Some(&to) = self.states[state].onward.get(&letter) {
+            if let Some(to) = self.states[state].onward.get(letter) {
                 return (to, length + 1);
             }
             match self.states[state].shorter {

@@ -2,9 +2,10 @@
 
 use std::ffi::{OsStr, OsString};
 
-use chain_arena::Ptr;
+use chain_arena::{Ptr, Slot};
 
 use crate::files::{Source, Target};
+use crate::lines::number;
 use crate::quote::{listed, quoted};
 
 /// What is asked for.
@@ -20,7 +21,7 @@ pub enum Asked {
 pub struct Job {
     pub command: Command,
     /// The slot whose chain alone is shown
-    pub around: Option<u32>,
+    pub around: Option<Slot>,
     pub targets: Vec<Target>,
 }
 
@@ -210,17 +211,20 @@ fn alone(name: &str, joined: Option<&OsStr>) -> Result<(), String> {
 /// The message that an option's value is missing.
 fn needs(name: &str) -> String {
     match name {
-        AROUND => format!("`{AROUND}` needs a slot, a number from 1 to 65535"),
+        AROUND => format!("`{AROUND}` needs a slot, a number from 1 to {}", Slot::MAX),
         _ => format!("`{name}` needs the name of a file to write"),
     }
 }
 
 /// The slot that is named by a word.
-fn slot(word: &OsStr) -> Result<u32, String> {
-    let number = word.to_str().filter(|word| word.bytes().all(|byte| byte.is_ascii_digit()));
-    let slot =
-        number.and_then(|word| word.parse().ok()).filter(|slot| (1..=u32::from(u16::MAX)).contains(slot));
+fn slot(word: &OsStr) -> Result<Slot, String> {
+    let slot = digits(word).filter(|&slot| slot != 0);
     slot.ok_or_else(|| format!("{}, found {}", needs(AROUND), quoted(&word.to_string_lossy())))
+}
+
+/// The number of a word of decimal digits, if it is not too large.
+fn digits(word: &OsStr) -> Option<u32> {
+    word.to_str().and_then(number)
 }
 
 /// A file, the link that a walk begins with, and the ends of a window.
@@ -234,11 +238,8 @@ fn due(words: &[OsString]) -> Result<Command, String> {
             count => format!("{needs} {count} are given"),
         });
     };
-    let p = Ptr {
-        slot: number("SLOT", slot, u16::MAX)?,
-        generation: number("GENERATION", generation, u32::MAX)?,
-    };
-    let when = When { p, from: number("FROM", from, u32::MAX)?, to: number("TO", to, u32::MAX)? };
+    let p = Ptr { slot: needed("SLOT", slot)?, generation: needed("GENERATION", generation)? };
+    let when = When { p, from: needed("FROM", from)?, to: needed("TO", to)? };
     Ok(Command::Due(source(file), when))
 }
 
@@ -251,11 +252,11 @@ fn small(words: &[OsString]) -> Result<Command, String> {
     }
 }
 
-/// The number of a word that has a name, at most so large.
-fn number<T: std::str::FromStr + std::fmt::Display>(name: &str, word: &OsStr, most: T) -> Result<T, String> {
-    let digits = word.to_str().filter(|word| word.bytes().all(|byte| byte.is_ascii_digit()));
-    digits.and_then(|word| word.parse().ok()).ok_or_else(|| {
-        format!("`due` needs {name}, a number from 0 to {most}, found {}", quoted(&word.to_string_lossy()))
+/// The number of a word that `due` knows by a name.
+fn needed(name: &str, word: &OsStr) -> Result<u32, String> {
+    digits(word).ok_or_else(|| {
+        let (most, found) = (u32::MAX, quoted(&word.to_string_lossy()));
+        format!("`due` needs {name}, a number from 0 to {most}, found {found}")
     })
 }
 
@@ -328,8 +329,8 @@ mod tests {
         assert_eq!(job(&["--", "check", "--"]).command, Command::Check(file("--")));
         let when = |slot, generation, from, to| When { p: Ptr { slot, generation }, from, to };
         assert_eq!(job(&["due", "f", "1", "2", "3", "4"]).command, Command::Due(file("f"), when(1, 2, 3, 4)));
-        let most = Command::Due(Source::StandardInput, when(65_535, u32::MAX, u32::MAX, u32::MAX));
-        assert_eq!(job(&["due", "-", "65535", "4294967295", "4294967295", "4294967295"]).command, most);
+        let most = Command::Due(Source::StandardInput, when(u32::MAX, u32::MAX, u32::MAX, u32::MAX));
+        assert_eq!(job(&["due", "-", "4294967295", "4294967295", "4294967295", "4294967295"]).command, most);
         assert_eq!(
             job(&["due", "7", "007", "0", "0", "0"]).command,
             Command::Due(file("7"), when(7, 0, 0, 0))
@@ -347,7 +348,8 @@ mod tests {
         assert_eq!(job(&["--reset", "compress", "f"]).command, how(true, false));
         assert_eq!(job(&["compress", "--order-preserving", "f"]).command, how(false, true));
         assert_eq!(job(&["compress", "f", "--order-preserving", "--reset"]).command, how(true, true));
-        assert_eq!(job(&["check", "--around", "65535", "f"]).around, Some(65_535));
+        assert_eq!(job(&["check", "--around", "65536", "f"]).around, Some(65_536));
+        assert_eq!(job(&["check", "--around", "4294967295", "f"]).around, Some(u32::MAX));
         assert_eq!(job(&["check", "--around=007", "f"]).around, Some(7));
         assert_eq!(job(&["apply", "f", "--around", "1", "c"]).around, Some(1));
         let target = |option, path: &str| Target { option, path: path.into() };
@@ -372,7 +374,7 @@ mod tests {
 
     #[test]
     fn wrong_use_is_told_by_name() {
-        let around = "`--around` needs a slot, a number from 1 to 65535";
+        let around = "`--around` needs a slot, a number from 1 to 4294967295";
         for (words, message) in [
             (&["--foo", "--help"][..], "unknown option `--foo`"),
             (&["check", "f", "-x"], "unknown option `-x`"),
@@ -414,8 +416,8 @@ mod tests {
                 "`due` needs a file, SLOT, GENERATION, FROM and TO, but 6 are given",
             ),
             (
-                &["due", "f", "65536", "x", "3", "4"],
-                "`due` needs SLOT, a number from 0 to 65535, found `65536`",
+                &["due", "f", "4294967296", "x", "3", "4"],
+                "`due` needs SLOT, a number from 0 to 4294967295, found `4294967296`",
             ),
             (
                 &["due", "f", "1", "4294967296", "3", "4"],
@@ -442,7 +444,7 @@ mod tests {
         ] {
             assert_eq!(asked(words), Err(message.to_string()), "{words:?}");
         }
-        for word in ["0", "65536", "-3", "+3", "x", "99999999999999999999"] {
+        for word in ["0", "4294967296", "-3", "+3", "x", "99999999999999999999"] {
             let message = format!("{around}, found `{word}`");
             assert_eq!(asked(&["check", "f", "--around", word]), Err(message));
         }

@@ -47,23 +47,23 @@ impl BySlot for OwnedArena {
     }
 
     fn prev(&self, slot: u32) -> u32 {
-        at(&self.prev, slot)
+        at(&self.prev, slot).unwrap_or(0)
     }
 
     fn next(&self, slot: u32) -> u32 {
-        at(&self.next, slot)
+        at(&self.next, slot).unwrap_or(0)
     }
 
     fn generation(&self, slot: u32) -> u32 {
-        at(&self.generation, slot)
+        at(&self.generation, slot).unwrap_or(0)
     }
 
     fn payload(&self, slot: u32) -> Option<u32> {
-        (slot as usize).checked_sub(1).and_then(|place| self.payload.get(place)).copied()
+        at(&self.payload, slot)
     }
 }
 
-/// The word of a column at a slot, 0 where it has none.
-fn at<T: Copy + Into<u32>>(column: &[T], slot: u32) -> u32 {
-    (slot as usize).checked_sub(1).and_then(|place| column.get(place)).map_or(0, |&word| word.into())
+/// The word of a column at a slot, none where it has ended.
+fn at(column: &[u32], slot: u32) -> Option<u32> {
+    (slot as usize).checked_sub(1).and_then(|place| column.get(place)).copied()
 }

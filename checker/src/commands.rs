@@ -118,13 +118,15 @@ impl Words<'_, '_> {
 
     /// The next word as a pointer.
     fn ptr(&mut self, name: &str) -> Result<Ptr, ParseError> {
-        let expected = format!(
-            "{}, a pointer `SLOT:GENERATION` with a slot from 0 to {} and a generation from 0 to {}",
-            self.argument(name),
-            Slot::MAX,
-            u32::MAX
-        );
-        self.line.word(&expected, |word| {
+        let named = self.argument(name);
+        let expected = || {
+            format!(
+                "{named}, a pointer `SLOT:GENERATION` with a slot from 0 to {} and a generation from 0 to {}",
+                Slot::MAX,
+                u32::MAX
+            )
+        };
+        self.line.word(expected, |word| {
             let (slot, generation) = word.split_once(':')?;
             Some(Ptr { slot: number(slot)?, generation: number(generation)? })
         })
@@ -132,12 +134,12 @@ impl Words<'_, '_> {
 
     /// The next word as a slot.
     fn slot(&mut self, name: &str) -> Result<Slot, ParseError> {
-        self.line.number(&format!("{}, a slot without a generation", self.argument(name)), Slot::MAX)
+        self.line.number(&format!("{}, a slot without a generation", self.argument(name)))
     }
 
     /// The next word as a payload.
     fn payload(&mut self) -> Result<u32, ParseError> {
-        self.line.number(&self.argument("PAYLOAD"), u32::MAX)
+        self.line.number(&self.argument("PAYLOAD"))
     }
 
     /// What a word is to the command.
@@ -179,9 +181,11 @@ mod tests {
             ("insert bridge 1:2 3:4 9", [18, 1, 2, 3, 4, 9]),
             ("insert bridge_inx 1 3 9", [19, 1, 0, 3, 0, 9]),
             // The largest and the smallest numbers, and zeros in front.
-            ("connect 65535:4294967295 0:0", [1, 65_535, u32::MAX, 0, 0, 0]),
-            ("insert at_interlink_inx 65535 0 4294967295", [17, 65_535, 0, 0, 0, u32::MAX]),
-            ("insert bridge_inx 0 65535 0", [19, 0, 0, 65_535, 0, 0]),
+            ("connect 4294967295:4294967295 0:0", [1, u32::MAX, u32::MAX, 0, 0, 0]),
+            ("insert at_interlink_inx 4294967295 0 4294967295", [17, u32::MAX, 0, 0, 0, u32::MAX]),
+            ("insert bridge_inx 0 4294967295 0", [19, 0, 0, u32::MAX, 0, 0]),
+            ("exchange_next 65535:1 65536:2", [4, 65_535, 1, 65_536, 2, 0]),
+            ("insert next_to_inx 65537 0", [13, 65_537, 0, 0, 0, 0]),
             ("remove 0000000003:00000000000000000000000005", [5, 3, 5, 0, 0, 0]),
         ] {
             let [given] = &read(text)[..] else { panic!("{text}") };
@@ -193,17 +197,13 @@ mod tests {
     fn a_command_that_is_written_is_read_again() {
         let mut random = Random::new(8);
         for round in 0..100 * COMMANDS {
-            let word = |random: &mut Random, largest: u64| match random.below(4) {
-                0 => largest,
-                1 => random.below(3) as u64,
-                _ => (random.below(1 << 32) as u64).min(largest),
+            let mut word = || match random.below(4) {
+                0 => u32::MAX,
+                1 => random.below(3) as u32,
+                _ => random.below(1 << 32) as u32,
             };
-            let mut ptr = || Ptr {
-                slot: word(&mut random, Slot::MAX.into()) as Slot,
-                generation: word(&mut random, u32::MAX.into()) as u32,
-            };
-            let pointers = [ptr(), ptr()];
-            let command = command(round % COMMANDS, pointers, word(&mut random, u32::MAX.into()) as u32);
+            let pointers = [0; 2].map(|_| Ptr { slot: word(), generation: word() });
+            let command = command(round % COMMANDS, pointers, word());
             assert_eq!(read(&text_of(command))[0].command, command);
         }
     }

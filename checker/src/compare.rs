@@ -46,7 +46,7 @@ impl<'a> Side<'a> {
 
     /// The slot that a link of a chain had before the compression.
     fn old_slot(&self, chain: &Chain<'_>, place: usize) -> u32 {
-        self.compressed.where_from.get(chain.first as usize - 1 + place).copied().map_or(0, u32::from)
+        self.compressed.where_from.get(chain.first as usize - 1 + place).copied().unwrap_or(0)
     }
 
     /// A chain: its kind, its payloads and its old slots.
@@ -424,5 +424,17 @@ mod tests {
             assert!(compare(a, a).unwrap().passes);
             assert!(!compare(a, b).unwrap().passes);
         }
+        let mut most = vec![(true, word(1_048_576, |_| 1))];
+        let one = Judged::new(String::new(), in_order(&most));
+        most[0].1[700_000] = 2;
+        let other = Judged::new(String::new(), in_order(&most));
+        assert!(compare(&one, &one).unwrap().passes);
+        let text = compare(&one, &other).unwrap().text;
+        assert!(
+            text.contains(
+                " part at place 1048576: payload 1 (slot 1048576) in A, payload 2 (slot 700001) in B"
+            ),
+            "{text}"
+        );
     }
 }

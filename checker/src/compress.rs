@@ -9,6 +9,7 @@ use crate::arguments::How;
 use crate::by_slot::BySlot;
 use crate::judged::{Judged, OVERFLOWED, header, rows};
 use crate::panel::Panel;
+use crate::wording::digits;
 
 /// An arena after its compression, with the old slot of each link by its new one.
 pub struct Compressed {
@@ -31,18 +32,21 @@ impl Compressed {
 
     /// The slot that the link of an old slot is in now, none if that was free.
     fn went_to(&self, old: u32) -> Option<u32> {
-        self.where_from.iter().position(|&from| u32::from(from) == old).map(|place| place as u32 + 1)
+        self.where_from.iter().position(|&from| from == old).map(|place| place as u32 + 1)
     }
 
-    /// A line for each slot that the stack had.
+    /// A line for each slot that the stack had, with as much room for a slot as the last one needs.
     fn table(&self, before: &OwnedArena) -> String {
-        let names = cells(["prev", "next", "generation", "payload"]);
-        let mut text =
-            format!("     |{:<39} |{:<39} |\nslot |{names} |{names} | where-from\n", "  before", "  after");
+        let (slots, width) = room(*before.stack().end());
+        let names = cells(["prev", "next", "generation", "payload"], width);
+        let (old, new) = ("  before", "  after");
+        let half = names.len();
+        let mut text = format!("{:slots$} |{old:half$} |{new:half$} |\n", "");
+        let _ = writeln!(text, "{:>slots$} |{names} |{names} | where-from", "slot");
         for slot in before.stack() {
             let from = self.where_from.get(slot as usize - 1).copied().unwrap_or(0);
-            let (old, new) = (words(before, slot), words(&self.after, slot));
-            let _ = writeln!(text, "{slot:>4} |{old} |{new} | {from:>10}");
+            let (old, new) = (words(before, slot, width), words(&self.after, slot, width));
+            let _ = writeln!(text, "{slot:>slots$} |{old} |{new} | {from:>10}");
         }
         text
     }
@@ -110,18 +114,39 @@ fn done(how: How) -> String {
     format!("{how_ordered}{}", if how.reset { " with reset" } else { "" })
 }
 
+/// How much room slots and neighbours have in a table up to a slot.
+fn room(last: u32) -> (usize, usize) {
+    (digits(last).max(4), digits(last).max(5) + 2)
+}
+
 /// The words of a slot that are read: of a free slot only its next, above the stack none.
-fn words(a: &OwnedArena, slot: u32) -> String {
+fn words(a: &OwnedArena, slot: u32, width: usize) -> String {
     if a.is_link(slot) {
-        cells([a.prev(slot), a.next(slot), a.generation(slot), a.payload(slot).unwrap_or(0)])
+        cells([a.prev(slot), a.next(slot), a.generation(slot), a.payload(slot).unwrap_or(0)], width)
     } else if a.is_free(slot) {
-        cells(["-", &a.next(slot).to_string(), "free", "-"])
+        cells(["-", &a.next(slot).to_string(), "free", "-"], width)
     } else {
-        cells(["-"; 4])
+        cells(["-"; 4], width)
     }
 }
 
-/// Four words below each other's names.
-fn cells<T: Display>([prev, next, generation, payload]: [T; 4]) -> String {
-    format!("{prev:>7}{next:>7}{generation:>13}{payload:>12}")
+/// Four words below each other's names, the neighbours with so much room.
+fn cells<T: Display>([prev, next, generation, payload]: [T; 4], width: usize) -> String {
+    format!("{prev:>width$}{next:>width$}{generation:>13}{payload:>12}")
+}
+
+#[cfg(test)]
+mod tests {
+    use super::*;
+
+    #[test]
+    fn neighbours_do_not_touch_however_many_slots_there_are() {
+        for (last, widths) in
+            [(0, (4, 7)), (9999, (4, 7)), (65_535, (5, 7)), (100_000, (6, 8)), (1_048_576, (7, 9))]
+        {
+            assert_eq!(room(last), widths, "{last}");
+            let line = cells([last, last, u32::MAX, u32::MAX], widths.1);
+            assert_eq!(line.split_whitespace().count(), 4, "{line}");
+        }
+    }
 }

@@ -1,15 +1,16 @@
 //! Which links of a chain are due in a window of the frame, as the proved calls answer it (REFERENCE, Frame clock).
 
-use std::fmt::Write;
+use std::fmt::{Display, Write};
 
 use chain_arena::{Dot, DueEvent, OwnedArena, Refusal, RefusalKind, Window};
 
 use crate::Shown;
 use crate::arguments::When;
+use crate::by_slot::BySlot;
 use crate::judged::Judged;
 use crate::panel::{Due, Panel};
 use crate::pointer::{stale, written};
-use crate::wording::counted;
+use crate::wording::{counted, digits};
 
 /// Tells which links of a chain are due, if the arena passes the check. The status is 0 if it does, the pointer is good and
 /// the frame has the window, however many links are due.
@@ -64,21 +65,20 @@ fn listed(judged: &Judged, when: When, window: Window, events: &[DueEvent]) -> S
     for sentence in &told[1..] {
         let _ = writeln!(text, "  {sentence}");
     }
+    let width = digits(*judged.arena.stack().end()).max(5) + 2;
     if !due.is_empty() {
-        text += &line(["slot", "line", "place", "payload"]);
+        text += &line(["slot", "line", "place", "payload"], width);
     }
     for (Due { slot, line: of, place }, event) in due.iter().zip(events) {
-        text += &line(
-            [*slot, *of, *place, event.dot.get()].map(|word| word.to_string()).each_ref().map(String::as_str),
-        );
+        text += &line([*slot, *of, *place, event.dot.get()], width);
     }
-    let panel = Panel { told, due, around: Some(when.p.slot.into()), ..judged.panel() };
+    let panel = Panel { told, due, around: Some(when.p.slot), ..judged.panel() };
     Shown { text, panels: vec![panel], passes: true }
 }
 
-/// A line of the list: slot, line, place in the line, payload.
-fn line([slot, line, place, payload]: [&str; 4]) -> String {
-    format!("{slot:>7}{line:>6}{place:>7}{payload:>9}\n")
+/// A line of the list: slot, with so much room, line, place in the line, payload.
+fn line<T: Display>([slot, line, place, payload]: [T; 4], width: usize) -> String {
+    format!("{slot:>width$}{line:>6}{place:>7}{payload:>9}\n")
 }
 
 /// How many links a chain has, and how many of them are due.
@@ -129,7 +129,6 @@ fn placed(dot: Dot) -> String {
 #[cfg(test)]
 mod tests {
     use super::*;
-    use crate::by_slot::BySlot;
     use crate::random::Random;
     use chain_arena::Ptr;
 
@@ -163,7 +162,7 @@ mod tests {
             let arena = random.arena(&chains, round % 3);
             for slot in 0..=arena.capacity() as u32 + 1 {
                 for (from, to) in ENDS.into_iter().flat_map(|from| ENDS.map(|to| (from, to))) {
-                    let p = Ptr { slot: slot as u16, generation: 5 };
+                    let p = Ptr { slot, generation: 5 };
                     let shown = due(&Judged::new("a".to_string(), arena.clone()), When { p, from, to });
                     let said = |number: u32| shown.text.starts_with(&format!("a: refused with {number}: "));
                     if !arena.is_link(slot) {

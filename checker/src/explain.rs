@@ -3,11 +3,11 @@
 //! Which rule fails is what the proved check says, and of rule 11 at which slot and side. This only looks for the words that
 //! make it fail.
 
-use chain_arena::{Header, OwnedArena, Refusal, Side};
+use chain_arena::{Arena, Header, OwnedArena, Refusal, Side};
 
 use crate::by_slot::BySlot;
 use crate::panel::Fault;
-use crate::wording::counted;
+use crate::wording::{counted, grouped};
 
 /// What stands behind the fault that the check names, if there are others.
 const NAMED: &str = " (named by the check)";
@@ -96,7 +96,8 @@ fn shape(a: &OwnedArena) -> String {
     } else if a.header.len() != Header::WORDS {
         format!("the header has {}, but it must have {}", counted(a.header.len(), "word"), Header::WORDS)
     } else {
-        format!("the columns have {prev} words each, but the most is 65,535")
+        let most = grouped(Arena::CAPACITY_LIMIT);
+        format!("the columns have {prev} words each, but the most is {most}")
     }
 }
 
@@ -171,7 +172,7 @@ fn missed(a: &OwnedArena, last: u32, count: usize, visited: &[bool]) -> Why {
 
 /// Rule 11: what is wrong with each link's prev, and then with its next. The first of these is what the check names.
 fn interlinks(a: &OwnedArena, refusal: Refusal) -> Why {
-    let named = refusal.slot().map(u32::from).zip(refusal.side());
+    let named = refusal.slot().zip(refusal.side());
     let sentence = named.and_then(|(slot, side)| wrong(a, slot, side));
     let links = a.stack().filter(|&slot| a.is_link(slot));
     let sides = links.flat_map(|slot| [Side::Prev, Side::Next].map(|side| (slot, side)));
@@ -230,8 +231,8 @@ mod tests {
         for (one, two) in rows.iter().flat_map(|one| rows.iter().map(move |two| (one, two))) {
             for k in 0..128 {
                 look(&OwnedArena {
-                    prev: vec![one[0] as u16, two[0] as u16],
-                    next: vec![one[1] as u16, two[1] as u16],
+                    prev: vec![one[0], two[0]],
+                    next: vec![one[1], two[1]],
                     generation: vec![one[2], two[2]],
                     payload: vec![10, 20],
                     header: vec![k % 4, k / 4 % 4, k / 16 % 4, 1 + k / 64],
@@ -283,7 +284,7 @@ mod tests {
         let Some(refusal) = refusal else { return Vec::new() };
         let (why, broken) = (explain(a, refusal), broken_sides(a));
         let named = broken[0];
-        assert_eq!((refusal.slot().map(u32::from), refusal.side()), (Some(named.0), Some(named.1)), "{a:?}");
+        assert_eq!((refusal.slot(), refusal.side()), (Some(named.0), Some(named.1)), "{a:?}");
         assert_eq!(why.faults.len(), broken.len(), "{a:?}: {why:?}");
         for (fault, &(slot, side)) in why.faults.iter().zip(&broken) {
             assert_eq!(fault.slot, slot, "{a:?}: {why:?}");
@@ -307,7 +308,7 @@ mod tests {
             let length = a.capacity();
             add_room(&mut a, round % 4);
             for _ in 0..1 + random.below(4) {
-                let (place, word) = (random.below(length), random.below(length + 5) as u16);
+                let (place, word) = (random.below(length), random.below(length + 5) as u32);
                 match random.below(2) {
                     0 => a.prev[place] = word,
                     _ if a.generation[place] != 0 => a.next[place] = word,

@@ -28,7 +28,8 @@ const SCRIPT: &str = concat!(
     include_str!("page/search.js")
 );
 
-/// How many faults are listed where there is no script; with one, all are. And how many links that are due are listed.
+/// How many faults are listed, and how many of them where there is no script. And how many links that are due are listed.
+const LISTED_FAULTS: usize = 131_072;
 const STATIC_FAULTS: usize = 1000;
 const LISTED_DUE: usize = 1000;
 /// How many of the header's further words are shown, and how many generations beside the current one.
@@ -144,7 +145,9 @@ impl<'p> PanelPage<'p> {
     fn data(&self) -> String {
         let (panel, rows) = (self.panel, &self.picture.rows);
         let (arena, header) = (&panel.arena, panel.arena.header());
-        let sentences: Vec<String> = panel.faults.iter().map(|fault| json_string(&fault.sentence)).collect();
+        let (listed, unlisted) = panel.faults.split_at(panel.faults.len().min(LISTED_FAULTS));
+        let sentences: Vec<String> = listed.iter().map(|fault| json_string(&fault.sentence)).collect();
+        let unlisted = unlisted.chunk_by(|one, other| one.slot == other.slot).map(|faults| faults[0].slot);
         [
             format!(r#"{{"title":{}"#, json_string(&panel.title)),
             format!(r#""stack":{}"#, arena.stack().count()),
@@ -165,7 +168,8 @@ impl<'p> PanelPage<'p> {
             format!(r#""due":{}"#, column(panel.due.iter().map(|due| due.slot))),
             format!(r#""dueLines":{}"#, column(panel.due.iter().map(|due| due.line))),
             format!(r#""duePlaces":{}"#, column(panel.due.iter().map(|due| due.place))),
-            format!(r#""faults":{}"#, column(panel.faults.iter().map(|fault| fault.slot))),
+            format!(r#""faults":{}"#, column(listed.iter().map(|fault| fault.slot))),
+            format!(r#""unlisted":{}"#, column(unlisted)),
             format!(r#""sentences":[{}]}}"#, sentences.join(",\n")),
         ]
         .join(",\n")
@@ -213,7 +217,10 @@ fn static_faults(name: &str, faults: &[Fault]) -> String {
         0 => String::new(),
         more => format!("<p>and {more} more</p>\n"),
     };
-    let count = faults.len();
+    let count = match faults.len() {
+        count if count > LISTED_FAULTS => format!("{count}, of which the first {LISTED_FAULTS} are listed"),
+        count => count.to_string(),
+    };
     format!("<h3>{name}: {count}</h3>\n<noscript><ul class=\"static\">\n{each}</ul>\n{more}</noscript>\n")
 }
 
@@ -253,8 +260,8 @@ fn json_string(text: &str) -> String {
 }
 
 /// A column as the script reads it: how many bytes each word has, and the words in base64, their low bytes first.
-fn column<T: Into<u32>>(words: impl Iterator<Item = T>) -> String {
-    let words: Vec<u32> = words.map(Into::into).collect();
+fn column(words: impl Iterator<Item = u32>) -> String {
+    let words: Vec<u32> = words.collect();
     let width = match words.iter().max() {
         None | Some(0..=0xff) => 1,
         Some(0..=0xffff) => 2,
@@ -352,6 +359,20 @@ mod tests {
         assert_eq!(page.matches("<li><b>").count(), STATIC_FAULTS);
         assert!(page.contains("<p>and 500 more</p>"));
         assert_eq!(page.matches("\"slot 1500: its next is 0\"").count(), 1);
+    }
+
+    #[test]
+    fn of_very_many_faults_the_first_are_listed_and_all_slots_are_marked() {
+        let mut broken = Panel { passes: false, ..panel("broken", OwnedArena::empty(0)) };
+        // two faults at each slot, of which the last one listed is the first of its slot
+        let fault = |k| Fault { slot: k / 2, sentence: format!("fault {k}") };
+        let last = LISTED_FAULTS as u32 + 2;
+        broken.faults = (3..last + 9).map(fault).collect();
+        let page = page(&[broken]);
+        assert!(page.contains("<h3>Faults: 131080, of which the first 131072 are listed</h3>"));
+        assert!(page.contains(&format!("\"fault {last}\"]}}")));
+        assert_eq!(page.matches("\"fault ").count(), LISTED_FAULTS);
+        assert!(page.contains(&format!("\"unlisted\":{}", column(last / 2..last / 2 + 5))));
     }
 
     #[test]

@@ -75,6 +75,7 @@ impl<'t> Line<'t> {
     }
 
     /// The next word, which is then read.
+    #[cfg(feature = "level-two")]
     pub fn take(&mut self) -> &'t str {
         let word = self.peek();
         self.skip(word.len());
@@ -93,24 +94,21 @@ impl<'t> Line<'t> {
         self.read = self.text.len() - rest.trim_start().len();
     }
 
-    /// The next word as `read` takes it, else an error that tells what was expected.
+    /// The next word as `read` takes it, else an error that tells what was expected. That is put into words only then.
     pub fn word<T>(
         &mut self,
-        expected: &str,
+        expected: impl FnOnce() -> String,
         read: impl FnOnce(&'t str) -> Option<T>,
     ) -> Result<T, ParseError> {
-        let value = read(self.peek()).ok_or_else(|| self.error(expected))?;
-        self.take();
+        let word = self.peek();
+        let value = read(word).ok_or_else(|| self.error(&expected()))?;
+        self.skip(word.len());
         Ok(value)
     }
 
     /// The next word as a number.
-    pub fn number<T: TryFrom<u64> + fmt::Display>(
-        &mut self,
-        name: &str,
-        largest: T,
-    ) -> Result<T, ParseError> {
-        self.word(&format!("{name}, a number from 0 to {largest}"), number)
+    pub fn number(&mut self, name: &str) -> Result<u32, ParseError> {
+        self.word(|| format!("{name}, a number from 0 to {}", u32::MAX), number)
     }
 
     /// That no further word stands on the line.
@@ -127,9 +125,8 @@ impl<'t> Line<'t> {
 }
 
 /// The number of a word of decimal digits, if it is not too large.
-pub fn number<T: TryFrom<u64>>(word: &str) -> Option<T> {
-    let digits = word.bytes().all(|byte| byte.is_ascii_digit());
-    T::try_from(word.parse().ok().filter(|_| digits)?).ok()
+pub fn number(word: &str) -> Option<u32> {
+    word.parse().ok().filter(|_| word.bytes().all(|byte| byte.is_ascii_digit()))
 }
 
 /// The line and column behind the end of a text.

@@ -42,7 +42,7 @@ pub struct Due {
 impl Due {
     /// Where an event is in the frame.
     pub fn of(DueEvent { ptr, dot }: DueEvent) -> Self {
-        Self { slot: ptr.slot.into(), line: dot.line().get(), place: dot.place() }
+        Self { slot: ptr.slot, line: dot.line().get(), place: dot.place() }
     }
 }
 

@@ -12,8 +12,8 @@ pub fn written(p: Ptr) -> String {
 
 /// Why a pointer names no link, if it names none.
 pub fn stale(a: &OwnedArena, p: Ptr) -> Option<String> {
-    let why = unlinked(a, p.slot.into()).or_else(|| {
-        let generation = a.generation(p.slot.into());
+    let why = unlinked(a, p.slot).or_else(|| {
+        let generation = a.generation(p.slot);
         (generation != p.generation).then(|| format!("slot {} holds generation {generation}", p.slot))
     })?;
     Some(format!("{} is stale: {why}", written(p)))

@@ -1,8 +1,8 @@
 //! Arenas for tests: made of chains, and random ones.
 
-use chain_arena::OwnedArena;
 #[cfg(feature = "level-two")]
-use chain_arena::{Command, LinkInsertKind, Ptr, Slot};
+use chain_arena::{Command, LinkInsertKind, Ptr};
+use chain_arena::{OwnedArena, Slot};
 #[cfg(feature = "level-two")]
 use {crate::by_slot::BySlot, crate::pointer::written};
 
@@ -41,7 +41,7 @@ impl Random {
 
     /// A whole arena that holds chains, in random slots of which so many are free.
     pub fn arena(&mut self, chains: &[Payloads], free: usize) -> OwnedArena {
-        let mut slots: Vec<u16> = (1..=(links(chains) + free) as u16).collect();
+        let mut slots: Vec<Slot> = (1..=(links(chains) + free) as Slot).collect();
         self.shuffle(&mut slots);
         arena(chains, &slots)
     }
@@ -58,11 +58,11 @@ fn links(chains: &[Payloads]) -> usize {
 /// A whole arena that holds chains from slot 1 on.
 #[cfg(feature = "level-three")]
 pub fn in_order(chains: &[Payloads]) -> OwnedArena {
-    arena(chains, &Vec::from_iter(1..=links(chains) as u16))
+    arena(chains, &Vec::from_iter(1..=links(chains) as Slot))
 }
 
 /// A whole arena that holds chains in given slots, one behind the other; the slots that are left over are free.
-fn arena(chains: &[Payloads], slots: &[u16]) -> OwnedArena {
+fn arena(chains: &[Payloads], slots: &[Slot]) -> OwnedArena {
     let mut arena = OwnedArena::empty(slots.len());
     let mut rest = slots;
     for (closed, payloads) in chains {
@@ -74,16 +74,16 @@ fn arena(chains: &[Payloads], slots: &[u16]) -> OwnedArena {
             None => 0,
         };
         for (place, (&slot, &payload)) in chain.iter().zip(payloads).enumerate() {
-            let k = usize::from(slot) - 1;
+            let k = slot as usize - 1;
             arena.prev[k] = neighbour(place.checked_sub(1), chain.len() - 1);
             arena.next[k] = neighbour(Some(place + 1), 0);
             (arena.generation[k], arena.payload[k]) = (5, payload);
         }
     }
     for (place, &slot) in rest.iter().enumerate() {
-        arena.next[usize::from(slot) - 1] = *rest.get(place + 1).unwrap_or(&slot);
+        arena.next[slot as usize - 1] = *rest.get(place + 1).unwrap_or(&slot);
     }
-    let root = rest.first().copied().map_or(0, u32::from);
+    let root = rest.first().copied().unwrap_or(0);
     arena.header = vec![slots.len() as u32, (slots.len() - rest.len()) as u32, root, 7];
     assert_eq!(arena.as_arena().check(), Ok(()), "{arena:?}");
     arena
@@ -166,15 +166,15 @@ impl Random {
             _ => self.below(arena.stack().count() + 3) as u32,
         };
         let generation = arena.generation(slot).wrapping_add((self.below(20) == 0).into());
-        Ptr { slot: slot as Slot, generation }
+        Ptr { slot, generation }
     }
 
     /// A command on an arena. Its pointers are mostly good ones, and the second is often the next of the first.
     pub fn command(&mut self, arena: &OwnedArena) -> Command {
         let p = self.ptr(arena);
-        let next = arena.next(p.slot.into());
+        let next = arena.next(p.slot);
         let q = match self.below(3) {
-            0 => Ptr { slot: next as Slot, generation: arena.generation(next) },
+            0 => Ptr { slot: next, generation: arena.generation(next) },
             _ => self.ptr(arena),
         };
         command(self.below(COMMANDS), [p, q], self.below(1000) as u32)
@@ -184,8 +184,8 @@ impl Random {
 /// Adds room above the stack, in which there are words that mean nothing.
 pub fn add_room(arena: &mut OwnedArena, room: usize) {
     for k in 0..room as u32 {
-        arena.prev.push(900 + k as u16);
-        arena.next.push(1 + k as u16);
+        arena.prev.push(900 + k);
+        arena.next.push(1 + k);
         arena.generation.push(7 * (k % 2));
         arena.payload.push(u32::MAX - k);
     }

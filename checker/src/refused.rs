@@ -88,9 +88,9 @@ impl fmt::Display for Named {
 
 impl Named {
     /// The slot that is named.
-    fn slot(self) -> u32 {
+    fn slot(self) -> Slot {
         match self {
-            Self::At(Ptr { slot, .. }) | Self::In(slot) => slot.into(),
+            Self::At(Ptr { slot, .. }) | Self::In(slot) => slot,
         }
     }
 
@@ -98,7 +98,7 @@ impl Named {
     fn missing(self, a: &OwnedArena) -> Option<String> {
         match self {
             Self::At(p) => stale(a, p),
-            Self::In(slot) => unlinked(a, slot.into()),
+            Self::In(slot) => unlinked(a, slot),
         }
     }
 
@@ -141,7 +141,7 @@ mod tests {
     fn pointers(a: &OwnedArena) -> Vec<Ptr> {
         let slots = 0..=a.header().stack_length + 2;
         let both = |slot| [a.generation(slot), a.generation(slot) + 1].map(|generation| (slot, generation));
-        slots.flat_map(both).map(|(slot, generation)| Ptr { slot: slot as Slot, generation }).collect()
+        slots.flat_map(both).map(|(slot, generation)| Ptr { slot, generation }).collect()
     }
 
     #[test]
@@ -220,10 +220,11 @@ mod tests {
                 ("exchange_next 9:4 1:4", 12, "1:4 is stale: slot 1 holds generation 5"),
                 ("exchange_next 9:4 3:3", 13, "the link at 9:4 has no next"),
                 ("exchange_next 1:5 3:3", 13, "the link at 3:3 has no next"),
+                ("remove 65537:5", 12, "65537:5 is stale: slot 65537 is not on the stack, whose length is 9"),
                 (
-                    "remove 65535:4294967295",
+                    "remove 4294967295:4294967295",
                     12,
-                    "65535:4294967295 is stale: slot 65535 is not on the stack, whose length is 9",
+                    "4294967295:4294967295 is stale: slot 4294967295 is not on the stack, whose length is 9",
                 ),
                 ("insert chain_end 1:1 7", 17, "1:1 is stale: slot 1 holds generation 5"),
                 ("insert chain_end 1:5 7", 17, "the link at 1:5 has a next, slot 5"),

@@ -20,8 +20,8 @@ use crate::svg;
 #[cfg(feature = "level-two")]
 use crate::{apply::applied, commands::Commands, format, random::text_of};
 
-/// Words that damaged texts of arenas are made of, and how many of them, the first ones, are small numbers, which leave a text
-/// an arena.
+/// Words that damaged texts of arenas are made of, and how many of them, the first ones, are numbers that leave a text an
+/// arena.
 const WORDS: [&str; 24] = [
     "0",
     "1",
@@ -32,7 +32,7 @@ const WORDS: [&str; 24] = [
     "9",
     "255",
     "65535",
-    "65536",
+    "65537",
     "4294967295",
     "4294967296",
     "99999999999999999999",
@@ -49,7 +49,7 @@ const WORDS: [&str; 24] = [
     "]]>&<",
 ];
 
-const SMALL: usize = 9;
+const SMALL: usize = 11;
 
 /// Words that damaged texts of commands are made of, and how many of them, the first ones, leave a text what it is.
 #[cfg(feature = "level-two")]
@@ -58,16 +58,16 @@ const COMMAND_WORDS: [&str; 24] = [
     "2:5",
     "3:7",
     "0:0",
-    "65535:4294967295",
+    "4294967295:4294967295",
     "1",
     "2",
-    "65535",
+    "65537",
     "remove",
     "insert",
     "connect",
     "disconnected",
     "bridge_inx",
-    "65536:1",
+    "4294967296:1",
     "1:4294967296",
     "99999999999999999999",
     ":",
@@ -139,7 +139,7 @@ fn show(checked: Judged, other: &Judged, slot: u32) -> bool {
     draw_if_done(crate::compress(&checked, how));
     draw_if_done(crate::compare(&checked, other));
     for (from, to) in [(0, 5), (5, 0), (3, 3), (0, 89_342), (89_342, 7)] {
-        let p = Ptr { slot: slot as u16, generation: checked.arena.generation(slot) };
+        let p = Ptr { slot, generation: checked.arena.generation(slot) };
         let due = due(&checked, When { p, from, to });
         draw(&due.panels);
         assert_eq!(due.passes, shown.passes && checked.arena.is_link(slot) && from < 89_342);

@@ -4,7 +4,7 @@
 use crate::by_slot::BySlot;
 use crate::panel::Panel;
 use crate::picture::{Kind, PACKED, Picture, Row};
-use crate::wording::escaped;
+use crate::wording::{digits, escaped};
 
 /// How many boxes stand on a line; a longer row goes on below.
 const BOXES: usize = PACKED;
@@ -31,6 +31,8 @@ const TEXT_HEIGHT: usize = 24;
 /// How far below its boxes the arrow runs that leads a row back to the left.
 const RETURN: usize = 18;
 
+/// How many digits of a number fit between a row's name and its first box.
+const DIGITS: usize = 7;
 /// How far the second edge of a box is inside of it.
 const INNER: usize = 4;
 /// The width and height of a sample box in the legend, and how far its words are to the right of its edge.
@@ -329,7 +331,9 @@ impl Drawing {
         }
         if let Some(prev) = row.wrong_prev {
             self.arrow("wrong", LEFT, "h-26");
-            self.label("wrong before", LEFT - 30, middle + 5, &prev.to_string());
+            // A long number stands above the row's name, and not over it.
+            let above = if digits(prev) > DIGITS { TEXT_HEIGHT - 8 } else { 0 };
+            self.label("wrong before", LEFT - 30, middle + 5 - above, &prev.to_string());
         }
     }
 
@@ -340,7 +344,7 @@ impl Drawing {
         match (line.row.wrong_next, line.row.kind, row_start) {
             (Some(next), ..) => {
                 self.arrow("wrong", right, "h22");
-                self.label("wrong", right + 26, middle + 5, &next.to_string());
+                self.beside("wrong", right, middle + 5, &next.to_string());
             }
             (None, Kind::Closed, Some(start)) => {
                 let (below, left) = (self.y + self.box_height + RETURN, LEFT - 22);
@@ -349,7 +353,7 @@ impl Drawing {
             }
             (None, Kind::Closed, None) => {
                 self.arrow("next", right, "h22");
-                self.label("note", right + 26, middle + 4, &format!("back to {}", line.row.slots[0]));
+                self.beside("note", right, middle + 4, &format!("back to {}", line.row.slots[0]));
             }
             (None, Kind::Freelist, _) => {
                 self.arrow("freelist", right, &format!("h12V{}h-26v8", self.y - 8));
@@ -370,7 +374,7 @@ impl Drawing {
             (true, false) => {
                 self.arrow(line.arrow(), line.right(), "h22");
                 let next = line.row.slots[line.from + BOXES];
-                self.label("note", line.right() + 26, self.middle() + 4, &format!("on to {next}"));
+                self.beside("note", line.right(), self.middle() + 4, &format!("on to {next}"));
             }
         }
     }
@@ -433,6 +437,13 @@ impl Drawing {
         self.y += TEXT_HEIGHT;
         self.width = self.width.max(2 * MARGIN + 9 * text.chars().count());
         self.label(class, MARGIN, self.y - 10, text);
+    }
+
+    /// A text at the tip of an arrow to the right.
+    fn beside(&mut self, class: &str, right: usize, y: usize, text: &str) {
+        let x = right + 26;
+        self.width = self.width.max(x + 8 * text.len() + MARGIN);
+        self.label(class, x, y, text);
     }
 
     /// A text somewhere.

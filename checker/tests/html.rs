@@ -1,5 +1,5 @@
-//! The page that `--html` writes: what stands in it, and what a browser makes of it. Where there is no Chromium, the tests
-//! that need it say so and are skipped.
+//! The page that `--html` writes: what stands in it, and what a browser makes of it. Where there is no Chromium or no Node, the
+//! tests that need it say so and are skipped.
 //!
 //! The modules that make the page are included by their paths, since a program's modules cannot be used from here. So a page
 //! can be made of any panels, and several arenas share one start of the browser.
@@ -22,16 +22,17 @@ use std::env;
 use std::fs::{self, File};
 use std::io::{self, Write};
 use std::path::{Path, PathBuf};
-use std::process::Command;
+use std::process::{Command, Stdio};
 use std::thread;
 use std::time::{Duration, Instant};
 
-use chain_arena::OwnedArena;
+use chain_arena::{Arena, OwnedArena};
 
 use panel::{Due, Fault, Panel};
 
-/// As many slots as an arena can have.
-const MOST: u32 = 65_535;
+/// As many slots as an arena can have, and so many that several such arenas stand on a page.
+const MOST: u32 = Arena::CAPACITY_LIMIT as u32;
+const MANY: u32 = 65_535;
 
 /// The folder of the arenas.
 fn arenas() -> PathBuf {
@@ -60,7 +61,7 @@ fn panel(title: &str, arena: OwnedArena) -> Panel {
 
 /// An arena without free slots whose links have the neighbours that are given by slot.
 fn linked(slots: u32, neighbours: impl Fn(u32) -> (u32, u32)) -> OwnedArena {
-    let (prev, next) = (1..=slots).map(neighbours).map(|(prev, next)| (prev as u16, next as u16)).unzip();
+    let (prev, next) = (1..=slots).map(neighbours).unzip();
     let payload = (1..=slots).map(|slot| slot.wrapping_mul(65_537)).collect();
     OwnedArena { prev, next, generation: vec![5; slots as usize], payload, header: vec![slots, slots, 0, 5] }
 }
@@ -84,13 +85,18 @@ fn pairs(slots: u32) -> OwnedArena {
     })
 }
 
+/// Links that are closed alone, each of which has a line of its own.
+fn closed_alone(slots: u32) -> OwnedArena {
+    linked(slots, |slot| (slot, slot))
+}
+
 /// Arenas of every large shape, with their names.
 fn large() -> [(&'static str, OwnedArena); 4] {
     [
-        ("one chain", one_chain(MOST)),
-        ("closed", closed_chain(MOST)),
-        ("pairs", pairs(MOST)),
-        ("lone", linked(MOST, |_| (0, 0))),
+        ("one chain", one_chain(MANY)),
+        ("closed", closed_chain(MANY)),
+        ("pairs", pairs(MANY)),
+        ("lone", linked(MANY, |_| (0, 0))),
     ]
 }
 
@@ -270,18 +276,21 @@ fn a_broken_arena_says_why_without_a_script() {
 
 #[test]
 fn a_large_arena_makes_a_small_page_quickly() {
-    for (name, arena) in large() {
-        let start = Instant::now();
+    let most = [("most pairs", pairs(MOST)), ("most alone", closed_alone(MOST))];
+    for (name, arena) in large().into_iter().chain(most) {
+        let (start, slots) = (Instant::now(), arena.capacity());
         let page = html::page(&[panel(name, arena.clone())]);
         assert!(start.elapsed() < Duration::from_secs(5), "{name}: {:?}", start.elapsed());
-        assert!(page.len() < 1_500_000, "{name}: {} bytes", page.len());
-        assert!(column(&page, "prev").into_iter().eq(arena.prev.iter().map(|&prev| u32::from(prev))));
+        // A column that needs more than 16 bits has four bytes a word.
+        let bytes = if slots > 65_535 { 26 * slots } else { 1_500_000 };
+        assert!(page.len() < bytes, "{name}: {} bytes", page.len());
+        assert!(column(&page, "prev") == arena.prev, "{name}");
         assert!(column(&page, "payload") == arena.payload, "{name}");
         let mut order = column(&page, "order");
         order.sort_unstable();
-        assert!(order.into_iter().eq(1..=MOST), "{name}");
+        assert!(order.into_iter().eq(1..=slots as u32), "{name}");
     }
-    let [half, whole] = [MOST / 2, MOST].map(|slots| html::page(&[panel("pairs", pairs(slots))]).len());
+    let [half, whole] = [MANY / 2, MANY].map(|slots| html::page(&[panel("pairs", pairs(slots))]).len());
     assert!(whole < 2 * half + 1000, "{half} and {whole} bytes");
 }
 
@@ -374,16 +383,23 @@ panels[0].querySelector('.due-list li:nth-child(2) a').click(); go('#panel=1&slo
     assert_eq!(noted(&document), ["6", marked, "true", "false", "slot 3, payload 89341, gen 5, due 2", "3"]);
 }
 
+/// A program on the PATH: the first of its names that is there.
+fn on_path(names: &[&str]) -> Option<PathBuf> {
+    let path = env::var_os("PATH")?;
+    let mut programs =
+        env::split_paths(&path).flat_map(|folder| names.iter().map(move |name| folder.join(name)));
+    programs.find(|program| program.is_file())
+}
+
 /// Chromium, if it is here: what CHROMIUM names, else the first of its names on the PATH.
 fn chromium() -> Option<PathBuf> {
-    if let Some(named) = env::var_os("CHROMIUM") {
-        return Some(named.into());
-    }
-    let path = env::var_os("PATH")?;
-    let names = ["chromium", "chromium-browser", "google-chrome"];
-    env::split_paths(&path)
-        .flat_map(|folder| names.map(|name| folder.join(name)))
-        .find(|program| program.is_file())
+    let named = env::var_os("CHROMIUM").map(PathBuf::from);
+    named.or_else(|| on_path(&["chromium", "chromium-browser", "google-chrome"]))
+}
+
+/// Says that a test is skipped, past the capture of the tests, so that it is seen.
+fn skipped(why: &str) {
+    let _ = io::stderr().write_all(format!("\nSKIPPED: {why}\n").as_bytes());
 }
 
 /// A path as part of an address.
@@ -396,10 +412,7 @@ fn address(path: &Path) -> String {
 /// The document that Chromium makes of a page at a fragment, after a script that is added to it; none without Chromium.
 fn browsed(name: &str, page: &str, fragment: &str, script: &str) -> Option<String> {
     let Some(chromium) = chromium() else {
-        // Written past the capture of the tests, so that it is seen.
-        let said =
-            format!("\nSKIPPED: Chromium is missing, so the page '{name}' was not opened in a browser\n");
-        let _ = io::stderr().write_all(said.as_bytes());
+        skipped(&format!("Chromium is missing, so the page '{name}' was not opened in a browser"));
         return None;
     };
     let folder = file(&format!("browsed-{name}"));
@@ -471,7 +484,7 @@ fn noted(document: &str) -> Vec<&str> {
 #[test]
 fn compared_arenas_are_followed_by_slot() {
     let fault = |slot| Fault { slot, sentence: format!("slot {slot} differs") };
-    let compared = |title: &str, where_from: Vec<u16>| Panel {
+    let compared = |title: &str, where_from: Vec<u32>| Panel {
         where_from,
         faults: vec![fault(3)],
         ..panel(title, one_chain(3))
@@ -659,8 +672,8 @@ note(document.querySelector('noscript').childElementCount);
 fn of_a_large_arena_only_what_is_seen_is_drawn() {
     // All shapes stand side by side on one page, since each start of the browser takes a second.
     let panels: Vec<Panel> = large().into_iter().map(|(name, arena)| panel(name, arena)).collect();
-    let mut broken = panel("broken", one_chain(MOST));
-    broken.faults = (1..=MOST)
+    let mut broken = panel("broken", one_chain(MANY));
+    broken.faults = (1..=MANY)
         .step_by(10)
         .map(|slot| Fault { slot, sentence: format!("slot {slot} is wrong") })
         .collect();
@@ -688,6 +701,39 @@ const line = [...list(5).querySelectorAll('.line')].indexOf(box(5, 40000).parent
     }
     expected.extend(["300", "299", "true", "150"]);
     assert_eq!(noted(&document), expected);
+}
+
+/// A list that is higher than a browser can show: each of its lines can be seen all the same.
+#[test]
+fn the_highest_list_is_scrolled_from_end_to_end() {
+    let steps = "
+const scroll = (top) => { list(1).scrollTop = top; list(1).dispatchEvent(new Event('scroll')); };
+const frame = () => list(1).getBoundingClientRect();
+const isSeen = (slot) => { const node = box(1, slot)?.getBoundingClientRect(); return node !== undefined && node.top >= frame().top - 1 && node.bottom <= frame().bottom + 1; };
+note(views[0].list.height > 4e7); note(list(1).scrollHeight < 17895697);
+note(isSeen(1)); scroll(1e9); note(isSeen(1048576)); scroll(0); note(isSeen(1));
+for (const slot of [65541, 524288, 1048575]) { look(String(slot), 'slot'); note(chosen()); note(isSeen(slot)); }
+note(list(1).querySelectorAll('.line').length < 100);
+";
+    let page = html::page(&[panel("highest", closed_alone(MOST))]);
+    let Some(document) = browsed("highest", &page, "", &format!("{TOOLS}{steps}")) else { return };
+    let mut expected = vec!["true"; 5];
+    expected.extend(["65541", "true", "524288", "true", "1048575", "true", "true"]);
+    assert_eq!(noted(&document), expected);
+}
+
+/// Lists of every height, up to that of the largest arena, in a stand-in for the browser.
+#[test]
+fn every_line_of_a_list_is_seen_however_high_it_is() {
+    let Some(node) = on_path(&["node"]) else {
+        return skipped("Node is missing, so no list was scrolled without a browser");
+    };
+    let script = [include_str!("../src/page/scroller.js"), include_str!("scroller.js")].concat();
+    let mut running =
+        Command::new(node).arg("-").stdin(Stdio::piped()).stdout(Stdio::piped()).spawn().unwrap();
+    running.stdin.take().unwrap().write_all(script.as_bytes()).unwrap();
+    let output = running.wait_with_output().unwrap();
+    assert_eq!((&*output.stdout, output.status.code()), (&b"every line is seen\n"[..], Some(0)));
 }
 
 /// A list of every part, longer than the window: its buttons, its order, its place after a new layout, and its print.

@@ -125,7 +125,7 @@ fn the_chain_of_a_slot_is_shown_alone() {
     let text = b"header 3 0 1 5\n1 0 1 0 0\n2 0 3 0 0\n3 0 3 0 0\n";
     let (ran, _) = on_text("check", "missed.txt", text, &["--around", "3"]);
     assert_eq!((ran.stdout.lines().last(), ran.status), (Some("  not listed 2 [3]"), 1));
-    for slot in ["10", "65535"] {
+    for slot in ["10", "65541", "4294967295"] {
         let ran = checker(&["check", "whole.txt", "--around", slot]);
         let message = format!("whole.txt: slot {slot} is not on the stack, whose length is 9\n");
         assert_eq!((ran.stdout, ran.stderr, ran.status), (String::new(), message, 2));
@@ -509,11 +509,11 @@ fn a_parse_error_has_its_place_and_what_was_found() {
         (b"header 2 2 0 5\n1 0 0 5 5\n\n1 0 0 5 5", "4:1: found `1`, expected slot 2"),
         (
             b"header 1 1 0 5\n1 +0 0 5 5",
-            "2:3: found `+0`, expected the prev of slot 1, a number from 0 to 65535 or `-`",
+            "2:3: found `+0`, expected the prev of slot 1, a number from 0 to 4294967295 or `-`",
         ),
         (
-            b"header 1 1 0 5\n1 0 65536 5 5",
-            "2:5: found `65536`, expected the next of slot 1, a number from 0 to 65535 or `-`",
+            b"header 1 1 0 5\n1 0 4294967296 5 5",
+            "2:5: found `4294967296`, expected the next of slot 1, a number from 0 to 4294967295 or `-`",
         ),
         (
             b"header 1 1 0 5\r\n1 0\t0 -5 5\r\n",
@@ -659,6 +659,19 @@ fn each_refusal_is_explained_and_its_slot_is_drawn_red() {
             "slot 1: its prev is 6, which is above the stack length 5",
             "1",
         ),
+        // 65,539 is 3 in 16 bits
+        (
+            7,
+            row("3 0 3 0 0", "3 0 65539 0 0"),
+            "the freelist comes from slot 3 to 65539, which is above the stack length 5",
+            "3",
+        ),
+        (
+            11,
+            row("1 0 5 5 10", "1 4294967295 5 5 10"),
+            "slot 1: its prev is 4294967295, which is above the stack length 5",
+            "1",
+        ),
         (11, row("1 0 5 5 10", "1 3 5 5 10"), "slot 1: its prev is 3, but slot 3 is free", "1"),
         (11, row("5 1 0 5 50", "5 0 0 5 50"), "slot 1: its next is 5, but slot 5 has no prev", "1"),
         (11, row("1 0 5 5 10", "1 0 0 5 10"), "slot 5: its prev is 1, but slot 1 has no next", "5"),
@@ -696,6 +709,15 @@ fn all_faults_of_rule_11_are_listed_and_drawn_red() {
                 "slot 5: its prev is 1, but the next of slot 1 is 6, not 5",
                 "2 faults at 2 slots",
             ][..],
+            "15",
+        ),
+        (
+            &[("1 0 5 5 10", "1 0 65541 5 10")],
+            &[
+                "slot 1: its next is 65541, which is above the stack length 5",
+                "slot 5: its prev is 1, but the next of slot 1 is 65541, not 5",
+                "2 faults at 2 slots",
+            ],
             "15",
         ),
         (
@@ -810,6 +832,9 @@ fn every_slot_of_the_stack_is_drawn_once() {
     assert_eq!(picture.matches("<path class=\"wrong\"").count(), 0);
 }
 
+/// As many slots as an arena can have. With fewer levels the gate does not optimise the program, and so many would take long.
+const MOST: u32 = if cfg!(feature = "level-three") { 1_048_576 } else { 70_000 };
+
 /// The text of an arena that is one chain through all slots, closed or not.
 fn one_chain(slots: u32, closed: bool) -> String {
     let mut text = format!("header {slots} {slots} 0 5\n");
@@ -823,15 +848,15 @@ fn one_chain(slots: u32, closed: bool) -> String {
 
 #[test]
 fn a_large_arena_is_drawn_in_part() {
-    for closed in [false, true] {
-        let (ran, picture) = on_text("check", "large.txt", one_chain(65_535, closed).as_bytes(), &[]);
+    for (slots, closed) in [(65_535, false), (65_536, true), (MOST, false)] {
+        let (ran, picture) = on_text("check", "large.txt", one_chain(slots, closed).as_bytes(), &[]);
         assert_eq!(ran.status, 0);
         assert!(ran.stdout.lines().all(|line| line.len() <= 110));
-        assert_eq!(
-            ran.stdout.split_whitespace().filter(|word| word.parse::<u32>().is_ok()).count(),
-            65_535 + 5
+        let numbers = ran.stdout.split_whitespace().filter(|word| word.parse::<u32>().is_ok()).count();
+        assert_eq!(numbers, slots as usize + 5);
+        assert!(
+            picture.contains(&format!("The picture is cut: 600 of {slots} slots of the stack are drawn."))
         );
-        assert!(picture.contains("The picture is cut: 600 of 65535 slots of the stack are drawn."));
         assert_eq!(picture.matches("<g class=\"slot\">").count(), 600);
     }
     let (_, picture) = on_text("check", "just.txt", one_chain(600, false).as_bytes(), &[]);
@@ -857,18 +882,15 @@ fn the_broken_slot_of_a_large_arena_is_drawn() {
     assert_eq!(drawn_broken(&picture), ["59999", "60000"]);
     // The line with slot 59999 is the middle one of sixty.
     assert!(picture.contains(">from place 59691</text>"));
-    let (ran, _) = on_text(
-        "check",
-        "too_large.txt",
-        one_chain(65_535, false)
-            .replace("\n65535 65534 0 5 65535\n", "\n65535 65534 0 5 65535\n65536 0 0 5 0\n")
-            .as_bytes(),
-        &[],
-    );
-    assert_eq!(
-        ran.stdout.lines().nth(1),
-        Some("  the columns have 65536 words each, but the most is 65,535")
-    );
+}
+
+#[cfg(feature = "level-three")]
+#[test]
+fn an_arena_that_is_too_large_is_refused() {
+    let (ran, _) = on_text("check", "too_large.txt", one_chain(MOST + 1, false).as_bytes(), &[]);
+    assert!(ran.stdout.starts_with("too_large.txt: refused with 1: "));
+    let why = "  the columns have 1048577 words each, but the most is 1,048,576";
+    assert_eq!((ran.stdout.lines().nth(1), ran.status), (Some(why), 1));
 }
 
 #[cfg(feature = "level-three")]

@@ -38,6 +38,11 @@ pub struct ArenaMut<'a> {
     pub header: &'a mut [u32],
 }
 
+impl Arena<'_> {
+    /// How many slots a column may have at most: the check refuses longer ones.
+    pub const CAPACITY_LIMIT: usize = 1_048_576;
+}
+
 impl ArenaMut<'_> {
     /// The arena to read.
     #[must_use]

@@ -8,9 +8,9 @@ use crate::{Arena, ArenaMut, Dot, Header, Link, LinkNoGen, Ptr, Refusal, Refusal
 /// An arena that has passed the check, borrowed so that it cannot change.
 ///
 /// Every call of [`Arena`] checks the whole arena first. Here the one proved check of [`Arena::checked`] serves all reads:
-/// each takes constant time, a chain takes time in proportion to its links, and the lists of all chains and of all links in
-/// proportion to the stack. What follows the check is safe Rust, not proved but tested to answer what the proved calls
-/// answer.
+/// each takes constant time, a chain takes time in proportion to its links, and the lists of all links and of all chains in
+/// proportion to the stack, but for a logarithm where chains are closed. What follows the check is safe Rust, not proved but
+/// tested to answer what the proved calls answer.
 ///
 /// ```
 /// use chain_arena::{Arena, Header, Ptr};
@@ -121,8 +121,7 @@ impl<'a> Checked<'a> {
     #[inline]
     pub fn ptr(&self, slot: Slot) -> Option<Ptr> {
         let generation = word(self.arena.generation, slot);
-        let on_stack = u32::from(slot) <= self.header.stack_length;
-        (on_stack && generation != 0).then_some(Ptr { slot, generation })
+        (slot <= self.header.stack_length && generation != 0).then_some(Ptr { slot, generation })
     }
 
     /// Whether `p` names a link, that is whether it is not stale.
@@ -236,9 +235,10 @@ impl<'a> Checked<'a> {
     }
 
     /// All chains, each along next: the open ones by their first links, then the closed ones by their lowest links, each
-    /// begun there, in the order of the slots. To visit all of them takes time in proportion to the stack.
+    /// begun there, in the order of the slots. To visit all of them takes time in proportion to the stack; where some are
+    /// closed, at worst in proportion to the stack times its logarithm.
     pub fn chains(&self) -> Chains<'a> {
-        Chains { checked: *self, open: self.links(), closed: self.links(), visited: [0; WORDS] }
+        Chains { checked: *self, open: self.links(), closed: self.links(), left: self.header.link_count }
     }
 
     /// All links in the order of their slots. To visit all of them takes time in proportion to the stack.
@@ -378,10 +378,7 @@ impl ExactSizeIterator for Links<'_> {}
 // Once no link is left, none is.
 impl FusedIterator for Links<'_> {}
 
-/// How many words have a bit for each slot.
-const WORDS: usize = (Slot::MAX as usize + 1) / 64;
-
-/// All chains: [`Checked::chains`]. It is 8 KiB large, since it remembers the links of the chains that it has given.
+/// All chains: [`Checked::chains`].
 #[derive(Clone, Debug)]
 #[must_use = "iterators are lazy and do nothing unless consumed"]
 pub struct Chains<'a> {
@@ -389,40 +386,53 @@ pub struct Chains<'a> {
     /// The links that may begin an open chain, and those that may begin a closed one
     open: Links<'a>,
     closed: Links<'a>,
-    /// A bit for each slot whose chain was given
-    visited: [u64; WORDS],
+    /// How many links are on chains that were not given yet
+    left: u32,
 }
 
 impl Chains<'_> {
-    /// Whether the chain of a slot was given already.
-    fn is_visited(&self, slot: Slot) -> bool {
-        self.visited[usize::from(slot) / 64] >> (slot % 64) & 1 != 0
-    }
-
-    /// Remembers all slots of a chain from its first on.
-    fn visit(&mut self, first: Slot) {
-        let mut slot = first;
-        loop {
-            self.visited[usize::from(slot) / 64] |= 1 << (slot % 64);
-            slot = word(self.checked.arena.next, slot);
-            if slot == 0 || slot == first {
-                return;
-            }
-        }
-    }
-
-    /// The slot that the next chain begins with. Once the open chains are given, a link that is not on one of them is on a
-    /// closed one.
+    /// The slot that the next chain begins with. Where the open chains have all links, no closed one is looked for.
     fn next_first(&mut self) -> Option<Slot> {
         while let Some(slot) = self.open.next_slot() {
             if word(self.checked.arena.prev, slot) == 0 {
                 return Some(slot);
             }
         }
-        loop {
+        while self.left > 0 {
             let slot = self.closed.next_slot()?;
-            if !self.is_visited(slot) {
+            if self.begins_closed(slot) {
                 return Some(slot);
+            }
+        }
+        None
+    }
+
+    /// Whether a link is the lowest one of a closed chain. From the link the chain is followed both ways at once, up to a lower
+    /// link or to an end. So each link but the lowest takes as many steps as the nearer of the two is away, which makes for all
+    /// links of a chain together at most their number times its logarithm.
+    fn begins_closed(&self, slot: Slot) -> bool {
+        let Arena { prev, next, .. } = self.checked.arena;
+        let (mut back, mut forth) = (slot, slot);
+        loop {
+            (back, forth) = (word(prev, back), word(next, forth));
+            if forth == slot {
+                return true;
+            }
+            // The end of an open chain is 0, which is lower than any slot.
+            if back < slot || forth < slot {
+                return false;
+            }
+        }
+    }
+
+    /// How many links a chain has from its first one on.
+    fn length(&self, first: Slot) -> u32 {
+        let (mut slot, mut length) = (first, 0);
+        loop {
+            slot = word(self.checked.arena.next, slot);
+            length += 1;
+            if slot == 0 || slot == first {
+                return length;
             }
         }
     }
@@ -433,7 +443,7 @@ impl<'a> Iterator for Chains<'a> {
 
     fn next(&mut self) -> Option<Chain<'a>> {
         let first = self.next_first()?;
-        self.visit(first);
+        self.left -= self.length(first);
         Some(Chain::new(self.checked, first))
     }
 }
@@ -442,7 +452,7 @@ impl<'a> Iterator for Chains<'a> {
 impl FusedIterator for Chains<'_> {}
 
 /// The word of a column at a slot, 0 where it has none.
-pub(crate) fn word<T: Copy + Default>(column: &[T], slot: Slot) -> T {
+pub(crate) fn word(column: &[u32], slot: Slot) -> u32 {
     // Slot 0 comes to the largest index there is, at which no column has a word.
-    column.get(usize::from(slot).wrapping_sub(1)).copied().unwrap_or_default()
+    column.get((slot as usize).wrapping_sub(1)).copied().unwrap_or(0)
 }

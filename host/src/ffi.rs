@@ -183,46 +183,46 @@ done! {
 unsafe extern "C" {
     /// Whether the arena can be worked with: 0, else the first rule that fails, 1 to 11. Every other call on an arena begins with it.
     pub fn chain_arena_check(
-        prev: *const u16, prev_len: usize, next: *const u16, next_len: usize,
+        prev: *const u32, prev_len: usize, next: *const u32, next_len: usize,
         generation: *const u32, generation_len: usize, payload: *const u32, payload_len: usize,
         header: *const u32, header_len: usize,
     ) -> PlainResult;
 
     /// The link at p and its neighbours with their generations. 12: p is stale.
     pub fn chain_arena_get_link(
-        prev: *const u16, prev_len: usize, next: *const u16, next_len: usize,
+        prev: *const u32, prev_len: usize, next: *const u32, next_len: usize,
         generation: *const u32, generation_len: usize, payload: *const u32, payload_len: usize,
         header: *const u32, header_len: usize,
-        p_slot: u16, p_generation: u32,
+        p_slot: u32, p_generation: u32,
     ) -> LinkResult;
 
     /// The link at p. 12: p is stale.
     pub fn chain_arena_get_link_no_gen(
-        prev: *const u16, prev_len: usize, next: *const u16, next_len: usize,
+        prev: *const u32, prev_len: usize, next: *const u32, next_len: usize,
         generation: *const u32, generation_len: usize, payload: *const u32, payload_len: usize,
         header: *const u32, header_len: usize,
-        p_slot: u16, p_generation: u32,
+        p_slot: u32, p_generation: u32,
     ) -> LinkNoGenResult;
 
     /// Whether the next of p_prev is p_next; 0 if one of them is stale.
     pub fn chain_arena_are_neighbors(
-        prev: *const u16, prev_len: usize, next: *const u16, next_len: usize,
+        prev: *const u32, prev_len: usize, next: *const u32, next_len: usize,
         generation: *const u32, generation_len: usize, payload: *const u32, payload_len: usize,
         header: *const u32, header_len: usize,
-        p_prev_slot: u16, p_prev_generation: u32, p_next_slot: u16, p_next_generation: u32,
+        p_prev_slot: u32, p_prev_generation: u32, p_next_slot: u32, p_next_generation: u32,
     ) -> NeighborsResult;
 
     /// A walk that begins at p. 12: p is stale.
     pub fn chain_arena_walk_start(
-        prev: *const u16, prev_len: usize, next: *const u16, next_len: usize,
+        prev: *const u32, prev_len: usize, next: *const u32, next_len: usize,
         generation: *const u32, generation_len: usize, payload: *const u32, payload_len: usize,
         header: *const u32, header_len: usize,
-        p_slot: u16, p_generation: u32,
+        p_slot: u32, p_generation: u32,
     ) -> WalkResult;
 
     /// One step of a walk in any state; direction 0 is along next, any other word along prev.
     pub fn chain_arena_walk_step(
-        prev: *const u16, prev_len: usize, next: *const u16, next_len: usize,
+        prev: *const u32, prev_len: usize, next: *const u32, next_len: usize,
         generation: *const u32, generation_len: usize, payload: *const u32, payload_len: usize,
         header: *const u32, header_len: usize,
         start: u32, position: u32, direction: u32, left: u32,
@@ -237,19 +237,19 @@ unsafe extern "C" {
     /// How many links of p's chain are due, that is have a payload in the window from `from` up to, but not including, `to`. 12: p
     /// is stale; 19: the frame has no such window.
     pub fn chain_arena_due_count(
-        prev: *const u16, prev_len: usize, next: *const u16, next_len: usize,
+        prev: *const u32, prev_len: usize, next: *const u32, next_len: usize,
         generation: *const u32, generation_len: usize, payload: *const u32, payload_len: usize,
         header: *const u32, header_len: usize,
-        p_slot: u16, p_generation: u32, from: u32, to: u32,
+        p_slot: u32, p_generation: u32, from: u32, to: u32,
     ) -> DueResult;
 
     /// Writes the slots of those links into the report, in the order of a walk from p, and answers how many they are. 12: p is
     /// stale; 19: the frame has no such window; 14: the report has fewer words than the chain has links.
     pub fn chain_arena_due_events(
-        prev: *const u16, prev_len: usize, next: *const u16, next_len: usize,
+        prev: *const u32, prev_len: usize, next: *const u32, next_len: usize,
         generation: *const u32, generation_len: usize, payload: *const u32, payload_len: usize,
         header: *const u32, header_len: usize,
-        p_slot: u16, p_generation: u32, from: u32, to: u32, report: *mut u16, report_len: usize,
+        p_slot: u32, p_generation: u32, from: u32, to: u32, report: *mut u32, report_len: usize,
     ) -> DueResult;
 }
 
@@ -259,66 +259,66 @@ unsafe extern "C" {
 unsafe extern "C" {
     /// Makes p_next the next of p_prev. 12, 13: p_prev is stale, or has a next; then p_next is stale, or has a prev.
     pub fn chain_arena_connect(
-        prev: *mut u16, prev_len: usize, next: *mut u16, next_len: usize,
+        prev: *mut u32, prev_len: usize, next: *mut u32, next_len: usize,
         generation: *const u32, generation_len: usize, payload: *const u32, payload_len: usize,
         header: *const u32, header_len: usize,
-        p_prev_slot: u16, p_prev_generation: u32, p_next_slot: u16, p_next_generation: u32,
+        p_prev_slot: u32, p_prev_generation: u32, p_next_slot: u32, p_next_generation: u32,
     ) -> PlainResult;
 
     /// Parts the link at p from the one before it. 12: p is stale; 13: there is none.
     pub fn chain_arena_break_prev(
-        prev: *mut u16, prev_len: usize, next: *mut u16, next_len: usize,
+        prev: *mut u32, prev_len: usize, next: *mut u32, next_len: usize,
         generation: *const u32, generation_len: usize, payload: *const u32, payload_len: usize,
         header: *const u32, header_len: usize,
-        p_slot: u16, p_generation: u32,
+        p_slot: u32, p_generation: u32,
     ) -> PlainResult;
 
     /// Parts the link at p from the one after it. 12: p is stale; 13: there is none.
     pub fn chain_arena_break_next(
-        prev: *mut u16, prev_len: usize, next: *mut u16, next_len: usize,
+        prev: *mut u32, prev_len: usize, next: *mut u32, next_len: usize,
         generation: *const u32, generation_len: usize, payload: *const u32, payload_len: usize,
         header: *const u32, header_len: usize,
-        p_slot: u16, p_generation: u32,
+        p_slot: u32, p_generation: u32,
     ) -> PlainResult;
 
     /// Gives each of the links at p0 and p1 the other one's next. 12: one is stale; 13: one has no next.
     pub fn chain_arena_exchange_next(
-        prev: *mut u16, prev_len: usize, next: *mut u16, next_len: usize,
+        prev: *mut u32, prev_len: usize, next: *mut u32, next_len: usize,
         generation: *const u32, generation_len: usize, payload: *const u32, payload_len: usize,
         header: *const u32, header_len: usize,
-        p0_slot: u16, p0_generation: u32, p1_slot: u16, p1_generation: u32,
+        p0_slot: u32, p0_generation: u32, p1_slot: u32, p1_generation: u32,
     ) -> PlainResult;
 
     /// Inserts a link with a payload where the kind says, 6 to 19, and answers its pointer. p and q are what the kind names: both,
     /// p alone, or none; the generations are read by kinds that name pointers. 16: there is no such kind; 17: what it asks does
     /// not hold; 18: there is no room.
     pub fn chain_arena_insert(
-        prev: *mut u16, prev_len: usize, next: *mut u16, next_len: usize,
+        prev: *mut u32, prev_len: usize, next: *mut u32, next_len: usize,
         generation: *mut u32, generation_len: usize, payload: *mut u32, payload_len: usize,
         header: *mut u32, header_len: usize,
-        kind: u32, p_slot: u16, p_generation: u32, q_slot: u16, q_generation: u32, new_payload: u32,
+        kind: u32, p_slot: u32, p_generation: u32, q_slot: u32, q_generation: u32, new_payload: u32,
     ) -> InsertResult;
 
     /// Takes the link at p out, joins its neighbours and answers what it was. 12: p is stale.
     pub fn chain_arena_remove(
-        prev: *mut u16, prev_len: usize, next: *mut u16, next_len: usize,
+        prev: *mut u32, prev_len: usize, next: *mut u32, next_len: usize,
         generation: *mut u32, generation_len: usize, payload: *mut u32, payload_len: usize,
         header: *mut u32, header_len: usize,
-        p_slot: u16, p_generation: u32,
+        p_slot: u32, p_generation: u32,
     ) -> LinkNoGenResult;
 
     /// Removes all links of p's chain in the order of a walk from p; five words of the report for each: slot, generation,
     /// prev and next when its turn comes, payload. 12: p is stale; 14: the report is too short.
     pub fn chain_arena_drain(
-        prev: *mut u16, prev_len: usize, next: *mut u16, next_len: usize,
+        prev: *mut u32, prev_len: usize, next: *mut u32, next_len: usize,
         generation: *mut u32, generation_len: usize, payload: *mut u32, payload_len: usize,
         header: *mut u32, header_len: usize,
-        p_slot: u16, p_generation: u32, report: *mut u32, report_len: usize,
+        p_slot: u32, p_generation: u32, report: *mut u32, report_len: usize,
     ) -> DrainResult;
 
     /// Sets the current generation. 15: it was to be 0 or 1.
     pub fn chain_arena_set_generation(
-        prev: *const u16, prev_len: usize, next: *const u16, next_len: usize,
+        prev: *const u32, prev_len: usize, next: *const u32, next_len: usize,
         generation: *const u32, generation_len: usize, payload: *const u32, payload_len: usize,
         header: *mut u32, header_len: usize,
         new_generation: u32,
@@ -326,14 +326,14 @@ unsafe extern "C" {
 
     /// Raises the current generation.
     pub fn chain_arena_inc_generation(
-        prev: *const u16, prev_len: usize, next: *const u16, next_len: usize,
+        prev: *const u32, prev_len: usize, next: *const u32, next_len: usize,
         generation: *const u32, generation_len: usize, payload: *const u32, payload_len: usize,
         header: *mut u32, header_len: usize,
     ) -> PlainResult;
 
     /// Pops the free slots above the highest link and links the others in rising order from the root on.
     pub fn chain_arena_canonicalize_freelist(
-        prev: *mut u16, prev_len: usize, next: *mut u16, next_len: usize,
+        prev: *mut u32, prev_len: usize, next: *mut u32, next_len: usize,
         generation: *mut u32, generation_len: usize, payload: *mut u32, payload_len: usize,
         header: *mut u32, header_len: usize,
     ) -> PlainResult;
@@ -341,7 +341,7 @@ unsafe extern "C" {
     /// Applies commands of six words each (a code, slot and generation of two pointers, a payload) and writes an answer for
     /// each. 16: the number of command words is not divisible by six; 14: there are more commands than answer words.
     pub fn chain_arena_run(
-        prev: *mut u16, prev_len: usize, next: *mut u16, next_len: usize,
+        prev: *mut u32, prev_len: usize, next: *mut u32, next_len: usize,
         generation: *mut u32, generation_len: usize, payload: *mut u32, payload_len: usize,
         header: *mut u32, header_len: usize,
         commands: *const u32, commands_len: usize, answers: *mut u32, answers_len: usize,
@@ -355,7 +355,7 @@ unsafe extern "C" {
     /// Moves the links into the first slots and keeps their order; four words of the report for each: slot and generation
     /// before, slot and generation afterwards. Any reset but 0 makes the generation 2. 14: the report is too short.
     pub fn chain_arena_compress_with(
-        prev: *mut u16, prev_len: usize, next: *mut u16, next_len: usize,
+        prev: *mut u32, prev_len: usize, next: *mut u32, next_len: usize,
         generation: *mut u32, generation_len: usize, payload: *mut u32, payload_len: usize,
         header: *mut u32, header_len: usize,
         reset: u32, report: *mut u32, report_len: usize,
@@ -364,10 +364,10 @@ unsafe extern "C" {
     /// Lays the chains out from slot 1 on, one behind the other, and writes down which slot each link had before. Any reset
     /// but 0 makes the generation 2. 14: the where-from column has not the columns' length.
     pub fn chain_arena_compress_canonical(
-        prev: *mut u16, prev_len: usize, next: *mut u16, next_len: usize,
+        prev: *mut u32, prev_len: usize, next: *mut u32, next_len: usize,
         generation: *mut u32, generation_len: usize, payload: *mut u32, payload_len: usize,
         header: *mut u32, header_len: usize,
-        reset: u32, where_from: *mut u16, where_from_len: usize,
+        reset: u32, where_from: *mut u32, where_from_len: usize,
     ) -> PlainResult;
 }
 
@@ -380,7 +380,7 @@ unsafe extern "C" {
     /// only lengths. 1: two columns differ in length or are too long, or the header has not four words; 14: there is such an
     /// arena, and the columns are shorter than its length.
     pub fn chain_arena_small_arena(
-        prev: *mut u16, prev_len: usize, next: *mut u16, next_len: usize,
+        prev: *mut u32, prev_len: usize, next: *mut u32, next_len: usize,
         generation: *mut u32, generation_len: usize, payload: *mut u32, payload_len: usize,
         header: *mut u32, header_len: usize,
         index: u32,

@@ -147,8 +147,8 @@ impl<'r> CompressedWith<'r> {
     #[must_use = "iterators are lazy and do nothing unless consumed"]
     pub fn links(&self) -> impl ExactSizeIterator<Item = Moved<Ptr>> + use<'r> {
         self.report.iter().map(|&[old_slot, old_generation, new_slot, new_generation]| Moved {
-            from: Ptr { slot: old_slot as Slot, generation: old_generation },
-            to: Ptr { slot: new_slot as Slot, generation: new_generation },
+            from: Ptr { slot: old_slot, generation: old_generation },
+            to: Ptr { slot: new_slot, generation: new_generation },
         })
     }
 }

@@ -2,7 +2,7 @@
 
 use crate::ffi::PlainResult;
 use crate::link::answered_slot;
-use crate::{Answers, ArenaMut, Done, LinkInsertKind, LinkNoGen, Ptr, Refusal, Run, Slot};
+use crate::{Answers, ArenaMut, Done, LinkInsertKind, LinkNoGen, Ptr, Refusal, Run};
 
 /// The calls of Level Two. Each begins with the check and gives its refusal, 1 to 11; a refused call has written nothing.
 ///
@@ -102,7 +102,7 @@ impl ArenaMut<'_> {
             q.generation,
             payload
         ));
-        answer.done().map(|_| Ptr { slot: answer.slot as Slot, generation: answer.generation })
+        answer.done().map(|_| Ptr { slot: answer.slot, generation: answer.generation })
     }
 
     /// Takes the link at `p` out and joins its neighbours.
@@ -240,7 +240,7 @@ impl<'r> Drained<'r> {
     #[must_use = "iterators are lazy and do nothing unless consumed"]
     pub fn links(&self) -> impl ExactSizeIterator<Item = DrainedLink> + use<'r> {
         self.report.iter().map(|&[slot, generation, prev, next, payload]| DrainedLink {
-            ptr: Ptr { slot: slot as Slot, generation },
+            ptr: Ptr { slot, generation },
             link: LinkNoGen { prev: answered_slot(prev), next: answered_slot(next), payload },
         })
     }

@@ -3,7 +3,7 @@
 use crate::ffi::{LinkNoGenResult, LinkResult};
 
 /// A slot number; the first slot is 1, and 0 is none.
-pub type Slot = u16;
+pub type Slot = u32;
 
 /// A pointer: a slot and the generation that the link there must have.
 #[derive(Clone, Copy, Debug, PartialEq, Eq, PartialOrd, Ord, Hash)]
@@ -23,7 +23,7 @@ impl Ptr {
 
 /// The slot of an answered word, none if it is 0.
 pub(crate) fn answered_slot(word: u32) -> Option<Slot> {
-    Slot::try_from(word).ok().filter(|&slot| slot != 0)
+    (word != 0).then_some(word)
 }
 
 /// A link, its neighbours with their generations.

@@ -65,7 +65,7 @@ impl From<Arena<'_>> for OwnedArena {
 }
 
 impl OwnedArena {
-    /// An arena of no links that has room for `capacity` slots. From 65,536 on the check refuses it.
+    /// An arena of no links that has room for `capacity` slots. Over [`Arena::CAPACITY_LIMIT`] the check refuses it.
     #[must_use]
     pub fn empty(capacity: usize) -> Self {
         let header = Header { stack_length: 0, link_count: 0, root: 0, generation: 2 };

@@ -88,7 +88,7 @@ macro_rules! kinds {
 }
 
 kinds! {
-    1 Shape "two columns differ in length or are longer than 65,535, or the header has not four words"
+    1 Shape "two columns differ in length or are longer than 1,048,576, or the header has not four words"
     2 CurrentGeneration "the current generation is 0 or 1"
     3 OverCapacity "the stack length or the link count exceeds the capacity"
     4 LinkCount "the link count differs from how many links the stack has"

@@ -5,7 +5,7 @@ use core::fmt;
 use core::iter::{FusedIterator, Zip};
 use core::slice;
 
-use crate::{Done, LinkInsertKind, Ptr, Refusal, Slot};
+use crate::{Done, LinkInsertKind, Ptr, Refusal};
 
 /// One edit of a run.
 #[derive(Clone, Copy, Debug, PartialEq, Eq, Hash)]
@@ -42,13 +42,13 @@ impl Command {
             Self::Remove(p) => (5, [p, NONE], 0),
             Self::Insert(kind, payload) => (kind.code(), kind.pointers(), payload),
         };
-        [code, p.slot as u32, p.generation, q.slot as u32, q.generation, payload]
+        [code, p.slot, p.generation, q.slot, q.generation, payload]
     }
 
     /// The command whose words these are.
     fn of([code, p, p_generation, q, q_generation, payload]: [u32; Self::WORDS]) -> Self {
-        let p = Ptr { slot: p as Slot, generation: p_generation };
-        let q = Ptr { slot: q as Slot, generation: q_generation };
+        let p = Ptr { slot: p, generation: p_generation };
+        let q = Ptr { slot: q, generation: q_generation };
         if let Some(kind) = LinkInsertKind::of(code, p, q) {
             return Self::Insert(kind, payload);
         }

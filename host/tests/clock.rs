@@ -48,7 +48,7 @@ const CHAINS: [(&[Slot], bool); 3] = [(&[9, 4, 7, 1, 12, 2], false), (&[3, 11, 6
 
 /// The pointer to a link of the sample.
 fn ptr(arena: &OwnedArena, slot: Slot) -> Ptr {
-    Ptr { slot, generation: arena.generation[usize::from(slot) - 1] }
+    Ptr { slot, generation: arena.generation[slot as usize - 1] }
 }
 
 /// Each link of the sample, with the slots of a walk from it.
@@ -155,7 +155,7 @@ fn what_is_due_comes_in_the_order_of_the_walk() {
         assert!(arena.walk(ptr(&columns, slot)).unwrap().map(|p| p.slot).eq(walk.iter().copied()));
         for window in windows() {
             let (p, from, to) = (ptr(&columns, slot), window.start().get(), window.end());
-            let payload = |slot: Slot| columns.payload[usize::from(slot) - 1];
+            let payload = |slot: Slot| columns.payload[slot as usize - 1];
             let due: Vec<Slot> =
                 walk.iter().copied().filter(|&slot| is_due(payload(slot), from, to)).collect();
             let told = format!("slot {slot}, from {from} to {to}");

@@ -1,9 +1,12 @@
 //! include/chain_arena.h declares the calls as the archives have them: every_call.c makes each one and prints every word that it answers and leaves. Any two
-//! arguments of one type, exchanged, are seen in what it prints, and so are any two fields of a result. The README's example for C is tried too.
+//! arguments of one type, exchanged, are seen in what it prints, and so are any two fields of a result. It makes each call on slots whose numbers need more than
+//! 16 bits too, and with the longest columns. The README's examples for C are tried too.
 
 use std::path::{Path, PathBuf};
 use std::process::{Command, Output};
 use std::sync::LazyLock;
+
+use chain_arena::Arena;
 
 use crate::sold;
 
@@ -100,18 +103,19 @@ fn a_c_program_makes_every_call() {
 fn any_two_arguments_of_one_type_exchanged_are_seen() {
     for (name, lines) in calls() {
         let mut seen = 0;
-        for kind in 0..4 {
-            for (i, j) in (1..5).flat_map(|j| (0..j).map(move |i| (i, j))) {
+        for kind in 0..2 {
+            for (i, j) in (1..7).flat_map(|j| (0..j).map(move |i| (i, j))) {
                 let words = [name.clone(), kind.to_string(), i.to_string(), j.to_string()];
                 let output = Command::new(&*EVERY_CALL).args(&words).output().unwrap();
                 if output.status.code() != Some(2) {
-                    assert_ne!(text(output), lines, "{name}: arguments {i} and {j} of kind {kind}");
+                    let printed = text(output);
+                    assert!(!lines.starts_with(&printed), "{name}: arguments {i} and {j} of kind {kind}");
                     seen += 1;
                 }
             }
         }
-        let least = if lines.contains(" | ") { 4 } else { 0 };
-        assert!(seen >= least, "{name}: prev and next, and any two of generation, payload and header");
+        let least = if lines.contains(" | ") { 10 } else { 0 };
+        assert!(seen >= least, "{name}: any two of prev, next, generation, payload and header");
     }
 }
 
@@ -141,7 +145,20 @@ fn every_call_names_the_lowest_slot_and_its_side() {
     for (name, lines) in calls().into_iter().filter(|(name, _)| is_on_arena(name)) {
         let first: Vec<[&str; 3]> =
             replies(&lines).iter().map(|reply| [0, 1, 2].map(|k| reply[k].1)).collect();
-        assert_eq!(first, [["0", "0", "0"], ["11", "5", "1"], ["11", "4", "2"]], "{name}");
+        assert_eq!(first[..3], [["0", "0", "0"], ["11", "5", "1"], ["11", "4", "2"]], "{name}");
+        assert_eq!(first[3..6], [["0", "0", "0"], ["11", "65541", "1"], ["11", "65540", "2"]], "{name}");
+    }
+}
+
+#[test]
+fn columns_may_be_as_long_as_the_limit_and_no_longer() {
+    let limit = Arena::CAPACITY_LIMIT;
+    for (name, lines) in calls().into_iter().filter(|(_, lines)| lines.contains(" | ")) {
+        let lines: Vec<&str> = lines.lines().collect();
+        let long = lines.windows(2).filter_map(|pair| Some((pair[1].strip_prefix(" columns of ")?, pair[0])));
+        let numbers = long.map(|(length, reply)| (length.parse().unwrap(), replies(reply)[0][0].1));
+        let expected = [(65_535, "0"), (65_536, "0"), (limit, "0"), (limit + 1, "1")];
+        assert_eq!(numbers.collect::<Vec<(usize, &str)>>(), expected, "{name}");
     }
 }
 
@@ -160,17 +177,24 @@ fn a_call_that_writes_an_arena_refuses_lengths_with_1_and_14_and_writes_only_whe
     for (name, lines) in listed(sold::WRITES_ARENA) {
         let found: Vec<Vec<&str>> =
             replies(&lines).iter().map(|reply| reply.iter().map(|(_, word)| *word).collect()).collect();
-        assert_eq!(found, [["0", "1", "3"], ["0", "0", "0"], ["1", "0", "0"], ["14", "0", "0"]], "{name}");
-        let left: Vec<&str> = lines.lines().filter(|line| line.starts_with(' ')).collect();
-        let turns: Vec<&[&str]> = left.chunks(2).collect();
-        let words = [" 0 1 99 2 0 99 | 2 4 3 0 0 99", " 5 6 0 7 9 99 | 10 20 99 40 50 99 | 5 4 3 11"];
-        assert_eq!(turns[1..], [&words[..]; 3], "{name}");
+        let turns = [["0", "1", "3"], ["0", "0", "0"], ["1", "0", "0"], ["14", "0", "0"]];
+        assert_eq!(found[..8], [turns, turns].concat(), "{name}");
+        let left: Vec<&str> = lines.lines().filter(|line| line.contains(" | ")).collect();
+        let words = " 0 1 99 2 0 99 | 2 4 3 0 0 99 | 5 6 0 7 9 99 | 10 20 99 40 50 99 | 5 4 3 11";
+        assert_eq!(left[1..4], [words; 3], "{name}");
         // the first three words of each column are the arena's, and the others stay
-        let further = |lines: &[&str]| -> Vec<String> {
-            let columns = lines.iter().flat_map(|line| line.split('|')).take(4);
-            columns.flat_map(|words| words.split_whitespace().skip(3)).map(str::to_string).collect()
+        let further = |line: &str, first: usize| -> Vec<String> {
+            let columns = line.split('|').take(4);
+            columns.flat_map(|words| words.split_whitespace().skip(first)).map(str::to_string).collect()
         };
-        assert_eq!(further(turns[0]), further(&words), "{name}");
+        assert_eq!(further(left[0], 3), further(words, 3), "{name}");
+        // in long columns these are below the words that are printed: 3 0 0, 0 2 1, 2 0 2 and 1 0 3
+        let changed =
+            left[4..].iter().map(|line| line.split(" | ").take(4).map(|words| words.split(':').next()));
+        let changed: Vec<Vec<&str>> =
+            changed.map(|counts| counts.flatten().map(str::trim).collect()).collect();
+        assert_eq!(changed, [["1", "2", "3", "3"], ["0"; 4], ["0"; 4], ["0"; 4]], "{name}");
+        assert!(left[5..].iter().all(|line| further(line, 1) == further(left[4], 1)), "{name}");
     }
 }
 
@@ -210,9 +234,11 @@ fn the_header_is_good_in_every_dialect_and_its_numbers_differ() {
     let codes = [constants("CHAIN_ARENA_COMMAND_"), constants("CHAIN_ARENA_INSERT_")].concat();
     let sides = constants("CHAIN_ARENA_SIDE_");
     let frame = constants("CHAIN_ARENA_FRAME_");
-    let other = |name: &String| ![&codes, &sides, &frame].iter().any(|names| names.contains(name));
+    let limit = constants("CHAIN_ARENA_CAPACITY_");
+    let other = |name: &String| ![&codes, &sides, &frame, &limit].iter().any(|names| names.contains(name));
     let numbers: Vec<String> = constants("CHAIN_ARENA_").into_iter().filter(other).collect();
-    assert_eq!((numbers.len(), codes.len(), sides.len(), frame.len()), (21, 19, 2, 3));
+    let counts = [&numbers, &codes, &sides, &frame, &limit].map(|names| names.len());
+    assert_eq!(counts, [21, 19, 2, 3, 1]);
     // Two cases of one value are an error, and so is a value that is no constant.
     let known = |name: &str, cases: &[String]| {
         let cases = cases.concat();
@@ -221,11 +247,12 @@ fn the_header_is_good_in_every_dialect_and_its_numbers_differ() {
         )
     };
     let program = format!(
-        "#include \"chain_arena.h\"\n{}{}{}{}",
+        "#include \"chain_arena.h\"\n{}{}{}{}{}",
         known("is_number", &numbers),
         known("is_code", &codes),
         known("is_side", &sides),
-        known("is_of_the_frame", &frame)
+        known("is_of_the_frame", &frame),
+        known("is_the_limit", &limit)
     );
     let mut tried = 0;
     for (compiler, dialects) in DIALECTS {

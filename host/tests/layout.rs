@@ -1,6 +1,6 @@
 //! The exports in Rattle, the C header and the Rust declarations say the same of every call: the same parameters and the same fields of its result, by name
-//! and type, in the same order. The proofs do not hold these places, so a fault is planted for each export: any two parameters, and any two fields, of one
-//! type exchanged in the Rattle source are found.
+//! and type, in the same order. Every word is 32 bits wide. The proofs do not hold these places, so faults are planted for each export: any two parameters,
+//! and any two fields, of one type exchanged in the Rattle source are found, and so is a narrower word in any of the three.
 //!
 //! What each export promises follows from its signature, so that is held too: `Answered` of its own call with its own arguments, of the arena at entry and
 //! at exit, of every field and of what is lent; without an arena, that its number and every field are what is defined of its own arguments; where it writes an
@@ -143,10 +143,9 @@ fn of_c_item(item: &str) -> Place {
     let pointer = item.contains('*');
     let element = of.trim_start_matches("const ").trim();
     let element = match element.trim_end_matches('*').trim() {
-        "uint16_t" => "u16",
         "uint32_t" => "u32",
         "size_t" => "usize",
-        other => panic!("{other} is a type that no call has"),
+        other => other,
     };
     let of = match (pointer, of.starts_with("const ")) {
         (true, true) => format!("*const {element}"),
@@ -158,13 +157,23 @@ fn of_c_item(item: &str) -> Place {
 
 /// What the C header declares.
 fn of_c(text: &str, call: &str) -> Declared {
-    let before = &text[..text.find(&format!(" {call}(")).unwrap_or_else(|| panic!("{call} is not declared"))];
-    let result = before.rsplit('\n').next().unwrap_or_default();
     let places = |list: &str| items(list).into_iter().map(of_c_item).collect();
     Declared {
         parameters: places(between(text, &format!(" {call}("), ")")),
-        fields: places(between(text, &format!("typedef struct {result} {{"), "}")),
+        fields: places(between(text, &format!("typedef struct {} {{", result_in_c(text, call)), "}")),
     }
+}
+
+/// The name of a call's result in the C header: what stands before the call on its line.
+fn result_in_c<'a>(text: &'a str, call: &str) -> &'a str {
+    let before = &text[..text.find(&format!(" {call}(")).unwrap_or_else(|| panic!("{call} is not declared"))];
+    before.rsplit('\n').next().unwrap_or_default()
+}
+
+/// Whether each parameter is a word of 32 bits, a pointer to such words or a count, and each field such a word.
+fn has_whole_words(declared: &Declared) -> bool {
+    let crosses = |of: &str| ["u32", "*const u32", "*mut u32", "usize"].contains(&of);
+    declared.parameters.iter().all(|(_, of)| crosses(of)) && declared.fields.iter().all(|(_, of)| of == "u32")
 }
 
 /// Every call.
@@ -289,7 +298,7 @@ fn promised_of_arena(text: &str, call: &str) -> String {
         for (name, of) in own {
             let word = marked(name);
             match of.as_str() {
-                "u16" => arguments
+                "u32" if name.ends_with("_slot") => arguments
                     .push(format!("(pointer {word} {})", marked(&name.replace("_slot", "_generation")))),
                 "u32"
                     if name.ends_with("_generation")
@@ -390,7 +399,7 @@ fn what_is_looked_at_is_what_is_exported() {
     let rattle = rattle();
     assert!(declared_once(&rattle));
     for call in calls() {
-        let decoy = format!("fn {call}(prev: &[u16]) -> Answer\n    ensures {{ λ r. ⌜ r ≡ r ⌝ }}\n{{\n}}\n");
+        let decoy = format!("fn {call}(prev: &[u32]) -> Answer\n    ensures {{ λ r. ⌜ r ≡ r ⌝ }}\n{{\n}}\n");
         assert!(!declared_once(&format!("{decoy}{rattle}")), "{call}");
     }
 }
@@ -503,9 +512,49 @@ fn rattle_c_and_rust_declare_the_same() {
         let names: Vec<&str> = exported.fields.iter().map(|(name, _)| name.as_str()).collect();
         let shared = names.iter().copied().filter(|name| ["number", "broken", "side"].contains(name));
         assert!(names.starts_with(first) && shared.eq(first.iter().copied()), "{call}: {names:?}");
-        assert!(exported.fields.iter().all(|(_, of)| of == "u32"), "{call}");
+        assert!(has_whole_words(&exported), "{call}: {exported:?}");
         assert_eq!(of_c(&header, call), exported, "{call} in the C header");
         assert_eq!(of_rust(&rust, call), exported, "{call} in host/src/ffi.rs");
+    }
+}
+
+/// The texts in which one type of the list behind a start is another, each in turn.
+fn narrowed(text: &str, start: &str, end: &str, [wide, narrow]: [&str; 2]) -> Vec<String> {
+    let list = between(text, start, end);
+    let (before, behind) = text.split_once(&format!("{start}{list}")).unwrap();
+    let changed = |(place, _)| {
+        let (left, right) = list.split_at(place);
+        format!("{before}{start}{left}{}{behind}", right.replacen(wide, narrow, 1))
+    };
+    list.match_indices(wide).map(changed).collect()
+}
+
+#[test]
+fn a_narrower_word_is_found_in_every_export() {
+    type Read = fn(&str, &str) -> Declared;
+    let texts: [(String, Read, &str); 3] = [
+        (rattle(), of_rust, "u32"),
+        (read("host/src/ffi.rs"), of_rust, "u32"),
+        (read("include/chain_arena.h"), of_c, "uint32_t"),
+    ];
+    for call in calls() {
+        for (text, declared, wide) in &texts {
+            let (c, narrow) = (*wide == "uint32_t", wide.replace("32", "16"));
+            let name = if c { result_in_c(text, call) } else { result(text, call) };
+            let (parameters, fields) = match c {
+                true => (format!(" {call}("), format!("typedef struct {name} {{")),
+                false => (format!("fn {call}("), format!("pub struct {name} {{")),
+            };
+            let wrongs = [
+                narrowed(text, &parameters, ")", [wide, &narrow]),
+                narrowed(text, &fields, "}", [wide, &narrow]),
+            ];
+            let wide_words = declared(text, call).parameters.iter().filter(|(_, of)| of != "usize").count();
+            assert_eq!(wrongs[0].len(), wide_words, "{call}");
+            for wrong in wrongs.iter().flatten() {
+                assert!(!has_whole_words(&declared(wrong, call)), "{call}");
+            }
+        }
     }
 }
 

@@ -1,4 +1,5 @@
-//! The tests that differ by what is linked: the archives, the wrapper, its clock, the small arenas, the C header, and how their numbers are told.
+//! The tests that differ by what is linked: the archives, the wrapper, its clock, the small arenas, slots past 65,535, the C header, and how their numbers are
+//! told.
 
 /// What is sold.
 #[path = "../levels.rs"]
@@ -12,4 +13,6 @@ mod header;
 mod numbers;
 #[cfg(feature = "small-arenas")]
 mod small_arenas;
+#[cfg(any(feature = "level-one", feature = "level-two", feature = "level-three"))]
+mod wide;
 mod wrapper;

@@ -1,11 +1,11 @@
 //! The numbers are told alike wherever they stand: in the README, in REFERENCE, in the C header's comment and constants, and in `RefusalKind`; and each method
-//! of the wrapper tells in `# Errors` the numbers that the table gives to its call. So are the sides, in the C header and in `Side`.
+//! of the wrapper tells in `# Errors` the numbers that the table gives to its call. So are the sides, in the C header and in `Side`, and the longest columns.
 
 use std::collections::BTreeSet;
 use std::fs;
 use std::path::Path;
 
-use chain_arena::{RefusalKind, Side};
+use chain_arena::{Arena, RefusalKind, Side};
 
 use crate::sold::{ARCHIVES, is_on_arena};
 
@@ -124,6 +124,18 @@ fn each_side_has_its_word_and_its_constant() {
     let header = read("include/chain_arena.h");
     let (_, told) = header.split_once(" *   side     ").unwrap();
     assert!(told.lines().next().unwrap().contains("CHAIN_ARENA_SIDE_..: 1 at the prev, 2 at the next alone"));
+}
+
+#[test]
+fn the_limit_is_that_of_the_wrapper_and_of_the_words() {
+    assert_eq!(Arena::CAPACITY_LIMIT, 1 << 20);
+    assert_eq!(constants("CHAIN_ARENA_CAPACITY_"), [(Arena::CAPACITY_LIMIT as u32, "LIMIT".to_string())]);
+    let limit = Arena::CAPACITY_LIMIT;
+    let told =
+        format!("are longer than {},{:03},{:03},", limit / 1_000_000, limit / 1000 % 1000, limit % 1000);
+    assert!(RefusalKind::Shape.words().contains(&told), "{told}");
+    let header = read("include/chain_arena.h");
+    assert_eq!(header.matches("are longer than ").count(), header.matches(&told).count());
 }
 
 #[cfg(feature = "level-two")]

@@ -6,10 +6,11 @@ use std::path::Path;
 use std::sync::LazyLock;
 
 use chain_arena::ffi::{SmallArenaResult, chain_arena_small_arena};
-use chain_arena::{Arena, ArenaMut, OwnedArena, RefusalKind, SmallArena, small_arenas};
+use chain_arena::{Arena, ArenaMut, OwnedArena, RefusalKind, Slot, SmallArena, small_arenas};
 
-/// The longest stack that a small arena has.
+/// The longest stack that a small arena has, and the longest columns that may be lent.
 const LONGEST: usize = 3;
+const LIMIT: usize = Arena::CAPACITY_LIMIT;
 
 /// Indices past the last small arena. The lower half, or the lower byte, of some is an index that has one.
 const PAST: [u32; 9] = [90, 91, 128, 256, 256 + 5, 65_536, 65_536 + 5, 1 << 31, u32::MAX];
@@ -38,7 +39,7 @@ fn try_words(arena: &mut OwnedArena, place: usize, found: &mut Vec<OwnedArena>) 
         (0..=length).flat_map(move |prev| (0..=length).map(move |next| (generation, prev, next)))
     }) {
         (arena.generation[place], arena.prev[place], arena.next[place]) =
-            (generation, prev as u16, next as u16);
+            (generation, prev as Slot, next as Slot);
         arena.payload[place] = if generation == 0 { 0 } else { place as u32 + 1 };
         try_words(arena, place + 1, found);
     }
@@ -47,7 +48,7 @@ fn try_words(arena: &mut OwnedArena, place: usize, found: &mut Vec<OwnedArena>) 
 /// Whether an arena is small, by what its words mean.
 fn is_small(a: Arena<'_>) -> bool {
     let length = a.prev.len();
-    let word = |column: &[u16], slot: usize| usize::from(column[slot - 1]);
+    let word = |column: &[Slot], slot: usize| column[slot - 1] as usize;
     let is_link = |slot: usize| (1..=length).contains(&slot) && a.generation[slot - 1] != 0;
     let (links, free): (Vec<usize>, Vec<usize>) = (1..=length).partition(|&slot| is_link(slot));
     let shape = length <= LONGEST
@@ -62,8 +63,9 @@ fn is_small(a: Arena<'_>) -> bool {
     }
     let ends = free.iter().any(|&slot| slot == at && word(a.next, slot) == at);
     let listed = left.is_empty() && if free.is_empty() { at == 0 } else { ends };
-    let named =
-        |slot: usize, other: usize, back: &[u16]| other == 0 || (is_link(other) && word(back, other) == slot);
+    let named = |slot: usize, other: usize, back: &[Slot]| {
+        other == 0 || (is_link(other) && word(back, other) == slot)
+    };
     shape
         && listed
         && free.iter().all(|&slot| word(a.prev, slot) == 0 && a.payload[slot - 1] == 0)
@@ -76,8 +78,7 @@ fn is_small(a: Arena<'_>) -> bool {
 
 /// What the order goes by: the stack length, the root, and of each slot the generation, prev and next.
 fn key(a: Arena<'_>) -> Vec<u32> {
-    let slots = (0..a.prev.len())
-        .flat_map(|place| [a.generation[place], u32::from(a.prev[place]), u32::from(a.next[place])]);
+    let slots = (0..a.prev.len()).flat_map(|place| [a.generation[place], a.prev[place], a.next[place]]);
     [a.header[0], a.header[2]].into_iter().chain(slots).collect()
 }
 
@@ -89,23 +90,22 @@ fn noise(length: usize, header: usize) -> OwnedArena {
     let words = |first: u32, count: usize| {
         (first..).take(count + 2 * GUARD).map(|word| word.wrapping_mul(2_654_435_761)).collect::<Vec<u32>>()
     };
-    let slots = |first: u32| words(first, length).into_iter().map(|word| (word >> 7) as u16).collect();
-    let [generation, payload] = [300_000, 400_000].map(|first| words(first, length));
-    OwnedArena { prev: slots(0), next: slots(100_000), generation, payload, header: words(500_000, header) }
+    let [prev, next, generation, payload] = [0, 1, 2, 3].map(|k| words(k << 22, length));
+    OwnedArena { prev, next, generation, payload, header: words(4 << 22, header) }
 }
 
 /// Words that may stand there before the call, as many as of `noise`: those, each word 0, and each word the largest.
 fn olds(length: usize, header: usize) -> [OwnedArena; 3] {
-    let all = |slot: u16, word: u32| {
+    let all = |word: u32| {
         let mut words = noise(length, header);
-        words.prev.fill(slot);
-        words.next.fill(slot);
+        words.prev.fill(word);
+        words.next.fill(word);
         words.generation.fill(word);
         words.payload.fill(word);
         words.header.fill(word);
         words
     };
-    [noise(length, header), all(0, 0), all(u16::MAX, u32::MAX)]
+    [noise(length, header), all(0), all(u32::MAX)]
 }
 
 /// Words with an arena laid into them behind the guard.
@@ -171,12 +171,12 @@ fn an_arena_with_any_other_word_is_not_small() {
     // but for another small one, which some words make of it
     for arena in TRIED.iter() {
         for place in 0..arena.prev.len() {
-            let wrongs = (0..5u16).flat_map(|word| {
+            let wrongs = (0..5).flat_map(|word| {
                 let mut wrongs = [0; 4].map(|_| arena.clone());
                 wrongs[0].prev[place] = word;
                 wrongs[1].next[place] = word;
-                wrongs[2].generation[place] = word.into();
-                wrongs[3].payload[place] = word.into();
+                wrongs[2].generation[place] = word;
+                wrongs[3].payload[place] = word;
                 wrongs
             });
             for wrong in wrongs {
@@ -243,9 +243,13 @@ fn the_call_writes_the_arena_and_further_words_stay() {
             }
         }
     }
-    let (mut words, lengths) = (noise(65_535, 4), [65_535, 65_535, 65_535, 65_535, 4]);
-    assert_eq!(called(&mut lent(&mut words, lengths), 89).found, 1);
-    assert_eq!(words.header[GUARD..GUARD + 4], TRIED[89].header);
+    for length in [65_535, 65_536, LIMIT] {
+        let old = noise(length, 4);
+        let mut words = old.clone();
+        let answer = called(&mut lent(&mut words, [length, length, length, length, 4]), 89);
+        assert_eq!(answer, SmallArenaResult { number: 0, found: 1, length: 3 }, "{length}");
+        assert!(words == laid(&old, &TRIED[89]), "{length}");
+    }
 }
 
 #[test]
@@ -299,11 +303,22 @@ fn a_refusal_writes_nothing_and_1_comes_first() {
             refused([short, short, short, short, 4], index, RefusalKind::SliceLength);
         }
     }
+}
+
+#[test]
+fn columns_that_are_too_long_are_refused() {
+    let mut words = noise(LIMIT + 1, 4);
+    let kept = words.clone();
     for index in [0, 89, 90, u32::MAX] {
-        refused([65_536, 65_536, 65_536, 65_536, 4], index, RefusalKind::Shape);
-        refused([65_536, 65_536, 65_536, 65_535, 4], index, RefusalKind::Shape);
-        refused([65_535, 65_535, 65_535, 65_536, 4], index, RefusalKind::Shape);
+        for (one, others) in
+            [(LIMIT + 1, LIMIT + 1), (LIMIT, LIMIT + 1), (LIMIT + 1, LIMIT), (65_535, 65_536)]
+        {
+            let answer = called(&mut lent(&mut words, [others, others, others, one, 4]), index);
+            let refused = SmallArenaResult { number: RefusalKind::Shape as u32, found: 0, length: 0 };
+            assert_eq!(answer, refused, "{one} and {others}");
+        }
     }
+    assert!(words == kept, "a refused call has written nothing");
 }
 
 #[test]
@@ -361,7 +376,7 @@ fn a_small_arena_is_edited_without_the_others() {
         let full = !small.as_arena().generation.contains(&0);
         let inserted = edited.as_arena_mut().insert(LinkInsertKind::Disconnected, 7);
         match inserted {
-            Ok(Ptr { slot, generation: 2 }) => assert_eq!(u32::from(slot), small.as_arena().header[2]),
+            Ok(Ptr { slot, generation: 2 }) => assert_eq!(slot, small.as_arena().header[2]),
             other => assert!(full && other.unwrap_err().kind() == RefusalKind::NotWithinCapacity),
         }
         assert_eq!(inserted.is_err(), edited == small, "{small:?}");
@@ -376,8 +391,7 @@ fn a_small_arena_is_edited_without_the_others() {
 /// A small arena as the program prints it: the words of the header, then of each slot prev, next, generation and payload.
 fn line(a: Arena<'_>) -> String {
     let decimal = |words: &[u32]| words.iter().map(u32::to_string).collect::<Vec<_>>().join(" ");
-    let slots = (0..a.prev.len())
-        .map(|k| decimal(&[a.prev[k].into(), a.next[k].into(), a.generation[k], a.payload[k]]));
+    let slots = (0..a.prev.len()).map(|k| decimal(&[a.prev[k], a.next[k], a.generation[k], a.payload[k]]));
     [decimal(a.header)].into_iter().chain(slots).collect::<Vec<_>>().join(" | ")
 }
 

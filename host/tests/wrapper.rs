@@ -3,11 +3,11 @@
 #[cfg(any(feature = "level-one", feature = "level-two", feature = "level-three"))]
 use chain_arena::Ptr;
 use chain_arena::ffi::PlainResult;
-use chain_arena::{Done, OwnedArena, Refusal, RefusalKind, Side, Slot};
+use chain_arena::{Arena, Done, OwnedArena, Refusal, RefusalKind, Side, Slot};
 
 /// The pointer to a slot at generation 5.
 #[cfg(any(feature = "level-one", feature = "level-two", feature = "level-three"))]
-fn p(slot: u16) -> Ptr {
+pub fn p(slot: Slot) -> Ptr {
     Ptr { slot, generation: 5 }
 }
 
@@ -16,7 +16,7 @@ fn p(slot: u16) -> Ptr {
 const STALE: Ptr = Ptr { slot: 1, generation: 4 };
 
 /// 1 -> 5, the closed 2 -> 4 -> (2), and the free slot 3.
-fn sample() -> OwnedArena {
+pub fn sample() -> OwnedArena {
     OwnedArena {
         prev: vec![0, 4, 0, 2, 1],
         next: vec![5, 4, 3, 2, 0],
@@ -40,6 +40,7 @@ fn refused_below_11() -> Vec<(u32, OwnedArena)> {
     vec![
         (1, changed(|a| a.header.push(0))),
         (1, changed(|a| a.payload.truncate(4))),
+        (1, OwnedArena::empty(Arena::CAPACITY_LIMIT + 1)),
         (2, changed(|a| a.header[3] = 1)),
         (3, changed(|a| a.header[0] = 6)),
         (4, changed(|a| a.header[1] = 5)),
@@ -59,7 +60,7 @@ fn refused_below_11() -> Vec<(u32, OwnedArena)> {
 }
 
 /// Arenas that the check refuses with 11, with the lowest slot at which that rule fails and the side.
-fn broken() -> Vec<(OwnedArena, Slot, Side)> {
+pub fn broken() -> Vec<(OwnedArena, Slot, Side)> {
     // The lone links 1 and 5, the closed 2 -> 4 -> (2) and the free slot 3, with some words of prev and of next changed. The
     // free slot and the one above the stack name slot 5 as far as they can.
     let changed = |prev: &[(usize, Slot)], next: &[(usize, Slot)]| {
@@ -102,13 +103,13 @@ fn broken() -> Vec<(OwnedArena, Slot, Side)> {
 
 /// The slots of a chain in the order of a walk from a slot, followed by hand.
 #[cfg(any(feature = "level-one", feature = "level-two", feature = "level-three"))]
-fn walked(arena: &OwnedArena, slot: u16) -> Vec<u16> {
-    let follow = |column: &[u16], from: u16| {
-        let onward = |&at: &u16| Some(column[usize::from(at) - 1]).filter(|&to| to != 0 && to != slot);
-        std::iter::successors(Some(from), onward).collect::<Vec<u16>>()
+fn walked(arena: &OwnedArena, slot: Slot) -> Vec<Slot> {
+    let follow = |column: &[Slot], from: Slot| {
+        let onward = |&at: &Slot| Some(column[at as usize - 1]).filter(|&to| to != 0 && to != slot);
+        std::iter::successors(Some(from), onward).collect::<Vec<Slot>>()
     };
     let mut slots = follow(&arena.next, slot);
-    let closed = arena.next[usize::from(slots[slots.len() - 1]) - 1] == slot;
+    let closed = arena.next[slots[slots.len() - 1] as usize - 1] == slot;
     if !closed {
         slots.extend(&follow(&arena.prev, slot)[1..]);
     }
@@ -190,14 +191,16 @@ fn a_side_has_its_word_and_its_name() {
     {
         assert_eq!(Side::of(word), side);
         let refusal = |broken| PlainResult { number: 11, broken, side: word }.done().unwrap_err();
-        assert_eq!((refusal(7).slot(), refusal(7).side()), (Some(7), side));
-        let place = side.map_or("at slot 7".to_string(), |side| format!("at the {side} of slot 7"));
-        assert_eq!(refusal(7).to_string(), format!("refused with 11 {place}: {}", RefusalKind::BrokenLink));
-        // a word that is no slot
-        for none in [0, 1 << 16, u32::MAX] {
-            assert_eq!((refusal(none).slot(), refusal(none).side()), (None, side));
-            assert_eq!(refusal(none).to_string(), format!("refused with 11: {}", RefusalKind::BrokenLink));
+        for slot in [1, 7, 65_535, 65_536, 65_536 + 7, u32::MAX] {
+            assert_eq!((refusal(slot).slot(), refusal(slot).side()), (Some(slot), side));
+            let place =
+                side.map_or(format!("at slot {slot}"), |side| format!("at the {side} of slot {slot}"));
+            let words = format!("refused with 11 {place}: {}", RefusalKind::BrokenLink);
+            assert_eq!(refusal(slot).to_string(), words);
         }
+        // 0 is no slot
+        assert_eq!((refusal(0).slot(), refusal(0).side()), (None, side));
+        assert_eq!(refusal(0).to_string(), format!("refused with 11: {}", RefusalKind::BrokenLink));
     }
     for number in [0, 100] {
         let done = PlainResult { number, broken: 7, side: 1 }.done();
@@ -209,13 +212,13 @@ fn a_side_has_its_word_and_its_name() {
 }
 
 /// Calls by their names, and what each was refused with.
-type Refused = Vec<(&'static str, Refusal)>;
+pub type Refused = Vec<(&'static str, Refusal)>;
 
 /// Makes the calls of a level on an arena that the check refuses.
 type Calls = fn(&mut OwnedArena) -> Refused;
 
 /// What every call that is linked is refused with on an arena that the check refuses. Nothing is written.
-fn refusals(arena: &OwnedArena) -> Refused {
+pub fn refusals(arena: &OwnedArena) -> Refused {
     let linked: &[(&str, Calls)] = &[
         #[cfg(feature = "level-one")]
         ("level_one", level_one::refusals),
@@ -346,13 +349,14 @@ mod level_one {
 
     #[test]
     fn the_highest_slot_can_be_named() {
-        let length = usize::from(Slot::MAX);
+        let length = Arena::CAPACITY_LIMIT;
+        let last = length as Slot;
         let mut columns = OwnedArena::empty(length);
         columns.generation.fill(5);
-        columns.header = vec![length as u32, length as u32, 0, 5];
+        columns.header = vec![last, last, 0, 5];
         columns.next[length - 1] = 1;
         let refusal = columns.as_arena().check().unwrap_err();
-        assert_eq!((refusal.slot(), refusal.side()), (Some(Slot::MAX), Some(Side::Next)));
+        assert_eq!((refusal.slot(), refusal.side()), (Some(last), Some(Side::Next)));
     }
 
     #[test]
@@ -797,7 +801,7 @@ mod level_two {
         };
         let mut arena = columns.as_arena_mut();
         for (slot, header) in [(3, [3, 2, 1, 7]), (1, [3, 3, 0, 7]), (4, [4, 4, 0, 7])] {
-            let answer = arena.insert(LinkInsertKind::Disconnected, 10 * u32::from(slot));
+            let answer = arena.insert(LinkInsertKind::Disconnected, 10 * slot);
             assert_eq!(answer, Ok(Ptr { slot, generation: 7 }));
             assert_eq!(*arena.header, header);
         }
@@ -816,7 +820,7 @@ mod level_two {
         let refused =
             |kind: LinkInsertKind| assert_eq!(inserted(&sample(), kind), (Err(17), sample()), "{kind:?}");
         // slot 0, a free one, and two above the stack
-        for none in [p(0), p(3), p(6), p(u16::MAX)] {
+        for none in [p(0), p(3), p(6), p(Slot::MAX)] {
             naming(none, none).as_flattened().iter().for_each(|&kind| refused(kind));
             let one =
                 [at_interlink(p(1), none), at_interlink(none, p(5)), bridge(p(5), none), bridge(none, p(1))];
@@ -958,7 +962,7 @@ mod level_two {
         ];
         for kind in fit.as_flattened() {
             let (code, pointers) = (kind.code(), kind.pointers());
-            for other in [p(0), p(1), Ptr { slot: u16::MAX, generation: u32::MAX }] {
+            for other in [p(0), p(1), Ptr { slot: Slot::MAX, generation: u32::MAX }] {
                 let named = if code < 8 { 0 } else { 1 + usize::from(code > 15) };
                 let [a, b] = [0, 1].map(|k| match (k < named, code % 2) {
                     (true, 0) => pointers[k],
@@ -1002,7 +1006,7 @@ mod level_two {
     }
 
     #[test]
-    fn a_slot_over_65535_in_a_command_is_no_link() {
+    fn a_slot_above_the_stack_in_a_command_is_no_link() {
         const OVER: u32 = 1 << 16;
         let mut columns = sample();
         let commands = [
@@ -1033,16 +1037,18 @@ mod level_two {
 
     #[test]
     fn a_command_is_told_as_it_was_given() {
-        let (p, q) = (Ptr { slot: 0xfedc, generation: u32::MAX }, Ptr { slot: 1, generation: 0x8000_0002 });
+        let p = Ptr { slot: 0xfedc_ba98, generation: u32::MAX };
+        let q = Ptr { slot: 0x1_0001, generation: 0x8000_0002 };
         let kinds = [ALONE].into_iter().chain(naming(p, q)).flatten();
         let inserting: Vec<Command> = kinds.map(|kind| Command::Insert(kind, 0x7fff_fff3)).collect();
         assert!(inserting.iter().map(|command| command.words()[0]).eq(6..20));
-        let words = [18, 0xfedc, u32::MAX, 1, 0x8000_0002, 0x7fff_fff3];
+        let words = [18, 0xfedc_ba98, u32::MAX, 0x1_0001, 0x8000_0002, 0x7fff_fff3];
         assert_eq!(inserting[12].words(), words);
-        assert_eq!(inserting[13].words(), [19, 0xfedc, 0, 1, 0, 0x7fff_fff3]);
+        assert_eq!(inserting[13].words(), [19, 0xfedc_ba98, 0, 0x1_0001, 0, 0x7fff_fff3]);
         // what a kind does not have is 0
         for (command, code) in inserting.iter().zip(6..16) {
-            let first = if code < 8 { [0, 0] } else { [0xfedc, if code % 2 == 0 { u32::MAX } else { 0 }] };
+            let generation = if code % 2 == 0 { u32::MAX } else { 0 };
+            let first = if code < 8 { [0, 0] } else { [0xfedc_ba98, generation] };
             assert_eq!(command.words(), [code, first[0], first[1], 0, 0, 0x7fff_fff3]);
         }
         let mut commands = vec![
@@ -1210,7 +1216,7 @@ type Noise<'n> = &'n mut dyn FnMut() -> u32;
 /// A pointer of any kind.
 #[cfg(any(feature = "level-one", feature = "level-two"))]
 fn any_pointer(noise: Noise<'_>) -> Ptr {
-    Ptr { slot: (noise() % 7) as u16, generation: 4 + noise() % 4 }
+    Ptr { slot: noise() % 7, generation: 4 + noise() % 4 }
 }
 
 #[test]
@@ -1228,8 +1234,8 @@ fn nothing_panics_on_any_words() {
         for _ in 0..noise() % 4 {
             let (place, word) = (noise() as usize % 5, noise() % 8);
             match noise() % 6 {
-                0 => columns.prev[place] = word as u16,
-                1 => columns.next[place] = word as u16,
+                0 => columns.prev[place] = word,
+                1 => columns.next[place] = word,
                 2 => columns.generation[place] = word,
                 3 => columns.header[place % 4] = word,
                 4 => columns.header.truncate(place),

@@ -4,7 +4,7 @@ use crate::random::Random;
 use crate::words::{
     CALLS_IN_ALL, DUE_COUNT, DUE_EVENTS, INSERT, LINE_DOTS, LINE_OF_DOT, SMALL_ARENA, calls_on_arenas,
 };
-use crate::{Arena, COMMAND_WORDS, Call, Ptr, Reading, Walk, frame, kind, model, random};
+use crate::{Arena, COMMAND_WORDS, CUT, Call, Ptr, Reading, Walk, frame, kind, model, random};
 
 /// The header's word, 0 if the header has none.
 fn word(a: &Arena, place: usize) -> usize {
@@ -21,17 +21,25 @@ fn links(a: &Arena) -> usize {
     word(a, crate::header::LINKS).min(a.generation.len())
 }
 
-/// A pointer, most often to a link, else with another slot or generation.
+/// A slot below `end`, which is not 0; in a large arena every other time one above 65,536.
+fn slot_below(r: &mut Random, end: usize) -> u32 {
+    let far = CUT as usize + 1;
+    let slot = if end > far && r.once_in(2) { far + r.below(end - far) } else { r.below(end) };
+    slot as u32
+}
+
+/// A pointer, most often to a link, else with another slot or generation; seldom with a slot that is raised by a multiple of
+/// 65,536.
 fn some_ptr(r: &mut Random, a: &Arena) -> Ptr {
     let past = r.below(3);
-    let slot = r.below(stack(a) + 1 + past);
-    let there = slot.checked_sub(1).and_then(|place| a.generation.get(place)).copied();
+    let slot = slot_below(r, stack(a) + 1 + past);
+    let there = word_at(&a.generation, slot);
     let generation = match r.below(12) {
         0 => r.pick(&[0, 1, 2, u32::MAX]),
         1 => word(a, crate::header::GENERATION) as u32,
         _ => there.unwrap_or(5),
     };
-    Ptr { slot: slot as u16, generation }
+    Ptr { slot: if r.once_in(24) { random::raised(r, slot) } else { slot }, generation }
 }
 
 /// A state of a walk: one that is kept from before, or one of any words.
@@ -41,8 +49,11 @@ pub fn some_walk(r: &mut Random, a: &Arena, kept: &[Walk]) -> Walk {
     }
     let mut word = |most: usize| match r.below(12) {
         0 => r.word(),
-        1 => 65_536 + r.below(most) as u32,
-        _ => r.below(most) as u32,
+        1 => {
+            let slot = slot_below(r, most);
+            random::raised(r, slot)
+        }
+        _ => slot_below(r, most),
     };
     let (start, position, left) = (word(stack(a) + 2), word(stack(a) + 2), word(links(a) + 2));
     Walk { start, position, direction: r.pick(&[0, 0, 1, 2, u32::MAX]), left }
@@ -51,7 +62,7 @@ pub fn some_walk(r: &mut Random, a: &Arena, kept: &[Walk]) -> Walk {
 /// A kind of an insertion, seldom an unknown one.
 fn some_kind(r: &mut Random) -> u32 {
     if r.once_in(20) {
-        r.pick(&[0, 1, 2, 3, 4, 5, 20, 21, 65_536 + kind::CHAIN_END, u32::MAX])
+        r.pick(&[0, 1, 2, 3, 4, 5, 20, 21, CUT + kind::CHAIN_END, u32::MAX])
     } else {
         known_kind(r)
     }
@@ -85,20 +96,20 @@ fn some_place(r: &mut Random, a: &Arena, kind: u32, p: Ptr, q: Ptr) -> (Ptr, Ptr
 }
 
 /// The word of a column at a slot, if there is one.
-fn word_at<T: Copy>(column: &[T], slot: u16) -> Option<T> {
-    column.get(usize::from(slot).checked_sub(1)?).copied()
+fn word_at(column: &[u32], slot: u32) -> Option<u32> {
+    column.get((slot as usize).checked_sub(1)?).copied()
 }
 
 /// The pointer to a slot with the generation that stands there, 5 where there is none.
-fn to(a: &Arena, slot: u16) -> Ptr {
+fn to(a: &Arena, slot: u32) -> Ptr {
     Ptr { slot, generation: word_at(&a.generation, slot).filter(|&there| there != 0).unwrap_or(5) }
 }
 
 /// A pointer to a link that has 0 in a column, or the given pointer if a few tries find none.
-fn link_without(r: &mut Random, a: &Arena, column: &[u16], otherwise: Ptr) -> Ptr {
+fn link_without(r: &mut Random, a: &Arena, column: &[u32], otherwise: Ptr) -> Ptr {
     let tries = if stack(a) == 0 { 0 } else { 8 };
-    let mut tried = (0..tries).map(|_| 1 + r.below(stack(a)) as u16);
-    let fits = |&s: &u16| word_at(&a.generation, s) != Some(0) && word_at(column, s) == Some(0);
+    let mut tried = (0..tries).map(|_| 1 + slot_below(r, stack(a)));
+    let fits = |&s: &u32| word_at(&a.generation, s) != Some(0) && word_at(column, s) == Some(0);
     tried.find(fits).map_or(otherwise, |s| to(a, s))
 }
 
@@ -108,17 +119,17 @@ fn some_payload(r: &mut Random) -> u32 {
     r.pick(&[0, u32::MAX, word, word, word, word])
 }
 
-/// A slot as a command has it, seldom one over 65,535 whose lower half it is, or any other that large.
-fn some_wide_slot(r: &mut Random, slot: u16) -> u32 {
-    let slot = u32::from(slot);
+/// A slot as a command has it, seldom raised by a multiple of 65,536, or another one that large.
+fn some_wide_slot(r: &mut Random, slot: u32) -> u32 {
     if r.once_in(40) {
-        r.pick(&[slot + 65_536, slot + 65_536, slot + 131_072, slot + (1 << 31), 65_536, u32::MAX])
+        let raised = random::raised(r, slot);
+        r.pick(&[raised, raised, raised, raised, CUT, u32::MAX])
     } else {
         slot
     }
 }
 
-/// The words of up to `most` commands, some of them unknown or with a slot over 65,535.
+/// The words of up to `most` commands, some of them unknown or with a slot over the capacity.
 pub fn some_commands(r: &mut Random, a: &Arena, most: usize) -> Vec<u32> {
     let mut words = Vec::new();
     for _ in 0..r.below(most) {
@@ -166,7 +177,7 @@ fn some_window(r: &mut Random, a: &Arena) -> (u32, u32) {
 /// A line, seldom one that there is not.
 fn some_line(r: &mut Random) -> u32 {
     let line = r.below(frame::LINES as usize) as u32;
-    if r.once_in(8) { r.pick(&[frame::LINES, frame::LINES + 1, line + 65_536, u32::MAX]) } else { line }
+    if r.once_in(8) { r.pick(&[frame::LINES, frame::LINES + 1, line + CUT, u32::MAX]) } else { line }
 }
 
 /// The index of a small arena, now and then one past the last, or one whose lower half or quarter is an index.
@@ -174,7 +185,7 @@ pub fn some_index(r: &mut Random) -> u32 {
     let index = r.below(model::small_arenas().len()) as u32;
     let past = index + 90;
     if r.once_in(6) {
-        r.pick(&[past, 90, 256 + index, 65_536 + index, (1 << 31) + index, u32::MAX])
+        r.pick(&[past, 90, 256 + index, CUT + index, (1 << 31) + index, u32::MAX])
     } else {
         index
     }
@@ -182,7 +193,7 @@ pub fn some_index(r: &mut Random) -> u32 {
 
 /// How many links the chain of a pointer has, on any arena: at most as many as there are.
 fn chain_length(a: &Arena, p: Ptr) -> usize {
-    let along = |column: &[u16]| {
+    let along = |column: &[u32]| {
         let mut slots = 0;
         let mut s = word_at(column, p.slot).unwrap_or(0);
         while s != 0 && s != p.slot && slots < links(a) {
@@ -196,8 +207,8 @@ fn chain_length(a: &Arena, p: Ptr) -> usize {
 }
 
 /// A report for the links of a chain that are due: too short, as long as the chain, or longer.
-fn some_events(r: &mut Random, a: &Arena, p: Ptr) -> Vec<u16> {
-    let (chain, noise) = (chain_length(a, p), r.word() as u16);
+fn some_events(r: &mut Random, a: &Arena, p: Ptr) -> Vec<u32> {
+    let (chain, noise) = (chain_length(a, p), r.word());
     vec![noise; r.pick(&[0, chain.saturating_sub(1), chain, chain, chain + 1, chain + 3])]
 }
 
@@ -265,7 +276,7 @@ pub fn call_of(code: usize, r: &mut Random, a: &Arena, kept: &[Walk]) -> Call {
         SMALL_ARENA => Call::SmallArena(some_index(r)),
         _ => {
             let places = if r.once_in(8) { a.capacity() + 1 } else { a.capacity() };
-            Call::CompressCanonical(r.below(2) as u32, vec![noise as u16; places])
+            Call::CompressCanonical(r.below(2) as u32, vec![noise; places])
         }
     }
 }
@@ -319,7 +330,7 @@ pub fn mixed_edits(r: &mut Random, a: &Arena, edits: usize, fitting: bool) -> Ve
 
 /// The words of a command.
 pub fn command(code: u32, p: Ptr, q: Ptr, payload: u32) -> [u32; COMMAND_WORDS] {
-    [code, p.slot.into(), p.generation, q.slot.into(), q.generation, payload]
+    [code, p.slot, p.generation, q.slot, q.generation, payload]
 }
 
 /// How the number of links goes in a run.
@@ -404,7 +415,7 @@ pub fn growth(r: &mut Random, a: &Arena, of_every_kind: bool) -> Vec<u32> {
 
 /// The code of an edit that can be done with two links: a connect if it fits, else one of the others.
 fn fitting_code(r: &mut Random, a: &Arena, p: Ptr, q: Ptr) -> Option<u32> {
-    let has = |column: &[u16], p: Ptr| column[p.slot as usize - 1] != 0;
+    let has = |column: &[u32], p: Ptr| column[p.slot as usize - 1] != 0;
     let fits = |code: u32| match code {
         1 => !has(&a.next, p) && !has(&a.prev, q),
         2 => has(&a.prev, p),

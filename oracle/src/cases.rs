@@ -2,11 +2,14 @@
 
 use std::sync::OnceLock;
 
-use crate::calls::{command, some_index};
+use crate::calls::{call_of, command, some_index};
 use crate::compare::{Counts, Mismatch, Product, compare};
 use crate::model::SMALL;
-use crate::random::{self, Random};
-use crate::{Archive, Arena, COMMAND_WORDS, Call, LIMIT, Ptr, Reading, Walk, frame, guards, kind, model};
+use crate::random::{self, RAISES, Random};
+use crate::words::calls_on_arenas;
+use crate::{
+    Archive, Arena, COMMAND_WORDS, CUT, Call, LIMIT, Ptr, Reading, Walk, frame, guards, kind, model,
+};
 
 /// How many arenas of stack length 0, 1, and so on up to 6 pass the check.
 pub const COUNTS: [usize; 7] = [1, 3, 13, 73, 501, 4_051, 37_633];
@@ -70,7 +73,7 @@ pub fn given_by(product: Product) -> Result<Vec<Arena>, Box<Mismatch>> {
         if found == 0 {
             break;
         }
-        arenas.push(lent_on(given.arena, length as usize));
+        arenas.push(lent_on(&given.arena, length as usize));
     }
     assert!(are_enumerated(&arenas), "the enumeration has other small arenas than the call and the model");
     Ok(arenas)
@@ -84,18 +87,21 @@ pub fn are_enumerated(arenas: &[Arena]) -> bool {
 }
 
 /// What the order of the small arenas goes by: the words for stack length and root, and those of each slot but its payload.
-pub fn place(a: &Arena) -> (usize, u32, Vec<(u32, u16, u16)>) {
-    let slot = |place: usize| (a.generation[place], a.prev[place], a.next[place]);
+pub fn place(a: &Arena) -> (usize, u32, Vec<[u32; 3]>) {
+    let slot = |place: usize| [a.generation[place], a.prev[place], a.next[place]];
     (a.stack(), a.root(), (0..a.stack()).map(slot).collect())
 }
 
 /// The first so many words of the columns, together with the header.
-pub fn lent_on(mut a: Arena, length: usize) -> Arena {
-    a.prev.truncate(length);
-    a.next.truncate(length);
-    a.generation.truncate(length);
-    a.payload.truncate(length);
-    a
+pub fn lent_on(a: &Arena, length: usize) -> Arena {
+    let front = |words: &[u32]| words.iter().take(length).copied().collect();
+    Arena {
+        prev: front(&a.prev),
+        next: front(&a.next),
+        generation: front(&a.generation),
+        payload: front(&a.payload),
+        header: a.header.clone(),
+    }
 }
 
 /// The same arenas as `small_arenas` in another order, put together link by link: of any length, and without the exported call.
@@ -128,7 +134,7 @@ fn lone_arenas(length: usize) -> Vec<Arena> {
 fn each_freelist(a: &mut Arena, free: &[usize], before: usize, found: &mut dyn FnMut(&mut Arena)) {
     if free.is_empty() {
         if before != 0 {
-            a.next[before - 1] = before as u16;
+            a.next[before - 1] = before as u32;
         }
         found(a);
     }
@@ -136,7 +142,7 @@ fn each_freelist(a: &mut Arena, free: &[usize], before: usize, found: &mut dyn F
         if before == 0 {
             a.header[crate::header::ROOT] = s as u32;
         } else {
-            a.next[before - 1] = s as u16;
+            a.next[before - 1] = s as u32;
         }
         let rest: Vec<usize> = free.iter().copied().filter(|&t| t != s).collect();
         each_freelist(a, &rest, s, found);
@@ -153,7 +159,7 @@ fn each_chaining(a: &mut Arena, open: &[usize], links: &[usize], found: &mut Vec
     each_chaining(a, rest, links, found);
     for &t in links {
         if a.prev[t - 1] == 0 {
-            (a.next[s - 1], a.prev[t - 1]) = (t as u16, s as u16);
+            (a.next[s - 1], a.prev[t - 1]) = (t as u32, s as u32);
             each_chaining(a, rest, links, found);
             (a.next[s - 1], a.prev[t - 1]) = (0, 0);
         }
@@ -166,7 +172,7 @@ pub fn dressed(a: &Arena, r: &mut Random, room: usize, links: &[u32], current: u
     let mut a = a.clone();
     for place in 0..a.stack() {
         if a.generation[place] == 0 {
-            a.prev[place] = r.word() as u16;
+            a.prev[place] = r.word();
             a.payload[place] = r.word();
         } else {
             a.generation[place] = r.pick(links);
@@ -179,8 +185,8 @@ pub fn dressed(a: &Arena, r: &mut Random, room: usize, links: &[u32], current: u
 /// The arena with `room` more places, noise in them.
 pub fn with_room(mut a: Arena, r: &mut Random, room: usize) -> Arena {
     for _ in 0..room {
-        a.prev.push(r.word() as u16);
-        a.next.push(r.word() as u16);
+        a.prev.push(r.word());
+        a.next.push(r.word());
         a.generation.push(r.word());
         a.payload.push(r.word());
     }
@@ -230,8 +236,8 @@ pub fn each_tuple(length: usize, room: usize, slots: usize, mut found: impl FnMu
     };
     for place in 0..length {
         a.generation[place] = 5 * digit(2) as u32;
-        a.prev[place] = digit(words) as u16;
-        a.next[place] = digit(words) as u16;
+        a.prev[place] = digit(words) as u32;
+        a.next[place] = digit(words) as u32;
     }
     for root in 0..words {
         for links in 0..words {
@@ -277,7 +283,7 @@ impl Interlinked {
         for place in 0..a.stack() {
             let columns = [Some(&mut a.prev), Some(&mut a.next).filter(|_| a.generation[place] != 0)];
             for column in columns.into_iter().flatten() {
-                column[place] = (rest % (column.len() + 2)) as u16;
+                column[place] = (rest % (column.len() + 2)) as u32;
                 rest /= column.len() + 2;
             }
         }
@@ -287,8 +293,8 @@ impl Interlinked {
 
 /// The arena with one slot above its stack that looks like a neighbour of slot `s` on both sides.
 pub fn with_false_neighbour(mut a: Arena, s: usize) -> Arena {
-    a.prev.push(s as u16);
-    a.next.push(s as u16);
+    a.prev.push(s as u32);
+    a.next.push(s as u32);
     a.generation.push(5);
     a.payload.push(0);
     a
@@ -302,35 +308,57 @@ pub fn pointers(a: &Arena) -> Vec<Ptr> {
         let there = if a.is_link(s) { a.generation[s - 1] } else { a.current() };
         let another = there.wrapping_add(1).max(1);
         for generation in [there, another, 0] {
-            pointers.push(Ptr { slot: s as u16, generation });
+            pointers.push(Ptr { slot: s as u32, generation });
         }
     }
     pointers
 }
 
-/// Every reading call with every pointer of the list, and every step with start and position 0 to the stack length
+/// Pointers to the links with slots raised by multiples of 65,536, and one to the largest slot. All of them are stale; with their
+/// slots cut to 16 bits those to links would not be.
+pub fn raised_pointers(a: &Arena) -> Vec<Ptr> {
+    let raised = |s: usize| Ptr { slot: s as u32 + RAISES[(s - 1) % RAISES.len()], ..a.ptr(s) };
+    a.link_slots().map(raised).chain([Ptr { slot: u32::MAX, generation: a.current() }]).collect()
+}
+
+/// The pointers of both lists.
+fn each_pointer(a: &Arena) -> Vec<Ptr> {
+    [pointers(a), raised_pointers(a)].concat()
+}
+
+/// Every two pointers of the first list; and each pointer of the second with every link, before it and behind it.
+fn each_two_pointers(a: &Arena) -> Vec<(Ptr, Ptr)> {
+    let (pointers, raised) = (pointers(a), raised_pointers(a));
+    let two = pointers.iter().flat_map(|&p| pointers.iter().map(move |&q| (p, q)));
+    let with_links =
+        raised.iter().flat_map(|&p| a.link_slots().flat_map(move |s| [(p, a.ptr(s)), (a.ptr(s), p)]));
+    two.chain(with_links).collect()
+}
+
+/// Every reading call with every pointer and every two, and every step with start and position 0 to the stack length
 /// and 1, both directions, and 0 to the stack length and 1 advances left.
 pub fn each_reading(a: &Arena, mut found: impl FnMut(Call)) {
     found(Call::Check);
-    let pointers = pointers(a);
-    for &p in &pointers {
+    for p in each_pointer(a) {
         found(Call::GetLink(p));
         found(Call::GetLinkNoGen(p));
         found(Call::WalkStart(p));
-        for &q in &pointers {
-            found(Call::AreNeighbors(p, q));
-        }
+    }
+    for (p, q) in each_two_pointers(a) {
+        found(Call::AreNeighbors(p, q));
     }
     let words: Vec<u32> = (0..=a.stack() as u32 + 1).collect();
     each_state(&words, &[0, 1], &words, found);
 }
 
-/// Every step with start and position 0 to the stack length and 1, the same and 65,536, and the largest; any direction
-/// words, and few or many advances left.
+/// Every step with start and position 0 to the stack length and 1, the same raised by multiples of 65,536, and the largest; any
+/// direction words, and few or many advances left.
 pub fn each_wide_step(a: &Arena, found: impl FnMut(Call)) {
-    let mut words: Vec<u32> = (0..=a.stack() as u32 + 1).flat_map(|s| [s, s + 65_536]).collect();
+    let raises = RAISES.into_iter().cycle();
+    let mut words: Vec<u32> =
+        (0..).zip(raises).take(a.stack() + 2).flat_map(|(s, more)| [s, s + more]).collect();
     words.push(u32::MAX);
-    each_state(&words, &[0, 1, 2, 65_536, u32::MAX], &[0, 1, 2, 65_536, u32::MAX], found);
+    each_state(&words, &[0, 1, 2, CUT, u32::MAX], &[0, 1, 2, CUT, u32::MAX], found);
 }
 
 /// The step of every state of the given words: start and position, direction, advances left.
@@ -367,32 +395,32 @@ pub fn each_walked_state(a: &Arena, mut found: impl FnMut(Walk)) {
 const NOISE: u32 = 0xdead_beef;
 
 /// The codes of a run's commands that are no insertions, and unknown ones.
-const EDITS: [u32; 9] = [1, 2, 3, 4, 5, 0, 20, 65_537, u32::MAX];
+const EDITS: [u32; 9] = [1, 2, 3, 4, 5, 0, 20, CUT + 1, u32::MAX];
 
-/// Every call of Level Two but insertions with every pointer of the list; reports empty, one word short of the chain, exact,
+/// Every call of Level Two but insertions with every pointer and every two; reports empty, one word short of the chain, exact,
 /// and longer; a run of each single command, and runs of every length up to thirteen words with up to three answers.
 pub fn each_edit(a: &Arena, mut found: impl FnMut(Call)) {
-    let pointers = pointers(a);
-    for &p in &pointers {
+    for p in each_pointer(a) {
         found(Call::BreakPrev(p));
         found(Call::BreakNext(p));
         found(Call::Remove(p));
-        let stale = !a.is_link(p.slot.into());
-        let chain = if stale { 1 } else { model::chain_of(a, p.slot.into()).len() };
+        let stale = !a.is_link(p.slot as usize);
+        let chain = if stale { 1 } else { model::chain_of(a, p.slot as usize).len() };
         for words in [0, 5 * chain - 1, 5 * chain, 5 * a.links() + 3] {
             found(Call::Drain(p, vec![NOISE; words]));
         }
-        for &q in &pointers {
-            found(Call::Connect(p, q));
-            found(Call::ExchangeNext(p, q));
-        }
+    }
+    for (p, q) in each_two_pointers(a) {
+        found(Call::Connect(p, q));
+        found(Call::ExchangeNext(p, q));
     }
     for generation in [0, 1, 2, 3, u32::MAX - 1, u32::MAX] {
         found(Call::SetGeneration(generation));
     }
     found(Call::IncGeneration);
     found(Call::CanonicalizeFreelist);
-    for command in commands(&EDITS, &pointers) {
+    let links: Vec<Ptr> = a.link_slots().map(|s| a.ptr(s)).collect();
+    for command in [commands(&EDITS, &pointers(a)), raised_commands(&EDITS, &links)].concat() {
         found(Call::Run(command.to_vec(), vec![NOISE; 2]));
     }
     for words in 0..=2 * COMMAND_WORDS + 1 {
@@ -415,6 +443,18 @@ fn commands(codes: &[u32], pointers: &[Ptr]) -> Vec<[u32; COMMAND_WORDS]> {
     commands
 }
 
+/// The commands of the codes with every pair of the pointers, each with its first or its second slot raised by a multiple of 65,536.
+fn raised_commands(codes: &[u32], pointers: &[Ptr]) -> Vec<[u32; COMMAND_WORDS]> {
+    let both = |(k, command): (usize, [u32; COMMAND_WORDS])| {
+        [1, 3].map(|word| {
+            let mut command = command;
+            command[word] += RAISES[k % RAISES.len()];
+            command
+        })
+    };
+    commands(codes, pointers).into_iter().enumerate().flat_map(both).collect()
+}
+
 /// Every link, and a stale pointer.
 fn links_and_stale(a: &Arena) -> Vec<Ptr> {
     let mut pointers: Vec<Ptr> = a.link_slots().map(|s| a.ptr(s)).collect();
@@ -425,29 +465,29 @@ fn links_and_stale(a: &Arena) -> Vec<Ptr> {
     pointers
 }
 
-/// Every run of two commands that are no insertions, with pointers to every link and a stale one, and some with 65,536
-/// added to a slot.
+/// Every run of two commands that are no insertions, with pointers to every link and a stale one, and some with a slot raised by
+/// a multiple of 65,536.
 pub fn each_pair_of_edits(a: &Arena, found: impl FnMut(Call)) {
     let mut commands = commands(&EDITS, &links_and_stale(a));
-    for k in 0..commands.len().min(3) {
-        let mut over = commands[k];
-        over[1] += 65_536;
-        commands.push(over);
+    for (k, more) in (0..commands.len()).zip(RAISES).take(3) {
+        let mut raised = commands[k];
+        raised[1] += more;
+        commands.push(raised);
     }
     each_pair(&commands, found);
 }
 
 /// Every run of two commands of the codes 0 to 20, with pointers to every link, to a link that the first command may insert
-/// and a stale one; and some insertions with 65,536 added to a slot.
+/// and a stale one; and some insertions with a slot raised by a multiple of 65,536.
 pub fn each_pair_of_commands(a: &Arena, found: impl FnMut(Call)) {
     let mut pointers = links_and_stale(a);
-    pointers.push(Ptr { slot: model::slot_to_take(a) as u16, generation: a.current() });
+    pointers.push(Ptr { slot: model::slot_to_take(a) as u32, generation: a.current() });
     let codes: Vec<u32> = (0..=20).collect();
     let mut commands = commands(&codes, &pointers);
-    for code in kind::ALL {
+    for (code, more) in kind::ALL.zip(RAISES.into_iter().cycle()) {
         let [_, slot, generation, ..] = commands[0];
-        commands.push([code, slot + 65_536, generation, slot, generation, 7]);
-        commands.push([code, slot, generation, slot + 65_536, generation, 8]);
+        commands.push([code, slot + more, generation, slot, generation, 7]);
+        commands.push([code, slot, generation, slot + more, generation, 8]);
     }
     each_pair(&commands, found);
 }
@@ -475,25 +515,22 @@ fn slots_and_words(a: &Arena) -> Vec<Ptr> {
             _ => there.wrapping_add(1).max(1),
         };
         for generation in [there, another] {
-            pointers.push(Ptr { slot: s as u16, generation });
+            pointers.push(Ptr { slot: s as u32, generation });
         }
     }
-    pointers.push(Ptr { slot: u16::MAX, generation: a.current() });
+    pointers.push(Ptr { slot: u32::MAX, generation: a.current() });
     pointers
 }
 
 /// Kinds that there are not.
 const NO_KINDS: [u32; 13] =
-    [0, 1, 2, 3, 4, 5, 20, 21, 31, 256, 256 + kind::CHAIN_END, 65_536 + kind::CHAIN_END, u32::MAX];
-
-/// What is added to a slot so that it is over 65,535 and the same by its lower half.
-const OVER: [u32; 4] = [65_536, 131_072, 1 << 31, u32::MAX - 65_535];
+    [0, 1, 2, 3, 4, 5, 20, 21, 31, 256, 256 + kind::CHAIN_END, CUT + kind::CHAIN_END, u32::MAX];
 
 /// Payloads of insertions, 0 and the largest among them.
 const PAYLOADS: [u32; 4] = [0, 900, 70_000, u32::MAX];
 
 /// Every kind of insertion with every pair of pointers, unknown ones with every first; and a run of each such command, those
-/// whose second pointer is not looked at with every first, and with slots over 65,535.
+/// whose second pointer is not looked at with every first; and both with one of the slots raised by a multiple of 65,536.
 pub fn each_insertion(a: &Arena, mut found: impl FnMut(Call)) {
     let pointers = slots_and_words(a);
     let second = |k: usize| pointers[(k + 1) % pointers.len()];
@@ -503,10 +540,14 @@ pub fn each_insertion(a: &Arena, mut found: impl FnMut(Call)) {
             for (l, &q) in pointers.iter().enumerate() {
                 found(Call::Insert(kind, p, q, payload(k + l)));
             }
-            for (word, over) in [1, 3].into_iter().flat_map(|word| OVER.map(|over| (word, over))) {
-                let mut command = command(kind, p, second(k), payload(k));
-                command[word] += over;
-                found(Call::Run(command.to_vec(), vec![NOISE; 2]));
+            let raised = |ptr: Ptr, more: u32| Ptr { slot: ptr.slot.wrapping_add(more), ..ptr };
+            for (turn, &more) in RAISES.iter().enumerate().skip(k % 2).step_by(2) {
+                for (p, q) in [(raised(p, more), second(k)), (p, raised(second(k), more))] {
+                    found(Call::Run(command(kind, p, q, payload(k)).to_vec(), vec![NOISE; 2]));
+                    if turn == k % RAISES.len() {
+                        found(Call::Insert(kind, p, q, payload(k)));
+                    }
+                }
             }
         }
     }
@@ -545,9 +586,109 @@ pub fn each_compression(a: &Arena, mut found: impl FnMut(Call)) {
             found(Call::CompressWith(reset, vec![NOISE; words]));
         }
         for places in [a.capacity().saturating_sub(1), a.capacity(), a.capacity() + 1] {
-            found(Call::CompressCanonical(reset, vec![0xbeef; places]));
+            found(Call::CompressCanonical(reset, vec![NOISE; places]));
         }
     }
+}
+
+/// The arena with one word raised by a multiple of 65,536: each word that names a slot, of a link its prev and its next, of a free
+/// slot its next, and each word of the header that names or counts slots. None of them passes the check.
+pub fn with_raised_words(a: &Arena) -> Vec<Arena> {
+    let mut arenas = Vec::new();
+    let mut push = |change: &dyn Fn(&mut Arena)| {
+        let mut raised = a.clone();
+        change(&mut raised);
+        arenas.push(raised);
+    };
+    for more in RAISES {
+        for place in 0..a.stack() {
+            push(&|raised| raised.next[place] += more);
+            if a.generation[place] != 0 {
+                push(&|raised| raised.prev[place] += more);
+            }
+        }
+        for word in [crate::header::STACK, crate::header::LINKS, crate::header::ROOT] {
+            push(&|raised| raised.header[word] += more);
+        }
+    }
+    arenas
+}
+
+/// Calls on an arena of more than 65,536 slots whose links all have the current generation: with pointers to slots around 65,536, at
+/// the ends of the stack and past them, those that are the same if they are cut to 16 bits among them; steps between such slots;
+/// edits at the first and last slots that they can be done at; with a link and one that is its next if it is cut; and each call so
+/// many times with random arguments, half of the slots being above 65,536.
+pub fn each_far_call(r: &mut Random, a: &Arena, times: usize, mut found: impl FnMut(Call)) {
+    let (last, capacity) = (a.stack() as u32, a.capacity() as u32);
+    let ends = [1, last - CUT, last - 1, last, last + 1, capacity + 1, last + CUT, u32::MAX];
+    let slots = [&[CUT - 1, CUT, CUT + 1], &ends[..]].concat();
+    for &slot in &slots {
+        let p = Ptr { slot, generation: a.current() };
+        let chain = if a.is_link(slot as usize) { model::chain_of(a, slot as usize).len() } else { 1 };
+        found(Call::GetLink(p));
+        found(Call::GetLinkNoGen(p));
+        found(Call::WalkStart(p));
+        found(Call::BreakPrev(p));
+        found(Call::BreakNext(p));
+        found(Call::Remove(p));
+        found(Call::Drain(p, vec![NOISE; 5 * chain]));
+        found(Call::DueCount(p, 0, frame::DOTS));
+        found(Call::DueEvents(p, 0, frame::DOTS, vec![NOISE; chain]));
+    }
+    for (k, &start) in slots.iter().enumerate() {
+        for position in [start, slots[(k + 3) % slots.len()]] {
+            found(Call::WalkStep(Walk { start, position, direction: k as u32 % 2, left: last }));
+        }
+    }
+    let without = |column: &[u32]| first_and_last(a.link_slots().filter(|&s| column[s - 1] == 0));
+    for (end, start) in pairs(without(&a.next), without(&a.prev)) {
+        found(Call::Connect(a.ptr(end), a.ptr(start)));
+        found(Call::Insert(kind::BRIDGE, a.ptr(end), a.ptr(start), 7));
+    }
+    let with_next = first_and_last(a.link_slots().filter(|&s| a.next[s - 1] != 0));
+    for (one, other) in pairs(with_next, with_next) {
+        found(Call::ExchangeNext(a.ptr(one), a.ptr(other)));
+    }
+    for s in a.link_slots().filter(|&s| r.once_in(16) && twin(a, a.next[s - 1]).is_some()).take(3) {
+        let (p, q) = (a.ptr(s), a.ptr(twin(a, a.next[s - 1]).expect("a link") as usize));
+        found(Call::AreNeighbors(p, q));
+        found(Call::Insert(kind::AT_INTERLINK, p, q, 7));
+        found(Call::Insert(kind::AT_INTERLINK_INX, p, q, 7));
+        found(Call::WalkStep(Walk { start: q.slot, position: p.slot, direction: 0, left: last }));
+    }
+    for code in (0..times).flat_map(|_| calls_on_arenas()) {
+        found(call_of(code, r, a, &[]));
+    }
+}
+
+/// Arenas of more than 65,536 slots that rule 11 refuses, but would not if slots were cut to 16 bits: the chains that follow slot
+/// 65,536 are those from slot 1 on once more, and the nexts of the first links of both are exchanged, or the prevs of the second ones.
+pub fn mirrored() -> [Arena; 2] {
+    let style = random::Style { free: 0, longest: 8, even: true, scattered: false, closed: 0 };
+    let cut = CUT as usize;
+    let a = random::whole(&mut Random::new(8), cut + 20, cut + 16, style);
+    let (mut by_next, mut by_prev) = (a.clone(), a);
+    by_next.next.swap(0, cut);
+    by_prev.prev.swap(1, cut + 1);
+    [by_next, by_prev]
+}
+
+/// The first and the last slot of some that rise; none if there are none.
+fn first_and_last(mut slots: impl Iterator<Item = usize>) -> Option<[usize; 2]> {
+    let first = slots.next()?;
+    Some([first, slots.last().unwrap_or(first)])
+}
+
+/// Every slot of the first two with every slot of the second two.
+fn pairs(first: Option<[usize; 2]>, second: Option<[usize; 2]>) -> impl Iterator<Item = (usize, usize)> {
+    let second = second.into_iter().flatten().collect::<Vec<usize>>();
+    first.into_iter().flatten().flat_map(move |s| second.clone().into_iter().map(move |t| (s, t)))
+}
+
+/// A link in another slot that is the same if both are cut to 16 bits.
+fn twin(a: &Arena, slot: u32) -> Option<u32> {
+    let others = [slot.checked_add(CUT), slot.checked_sub(CUT)];
+    others.into_iter().flatten().find(|&other| slot != 0 && a.is_link(other as usize))
 }
 
 /// Numbers where an answer about the frame can change: around dot 0, the ends of the first two lines, of one in the middle and
@@ -555,15 +696,15 @@ pub fn each_compression(a: &Arena, mut found: impl FnMut(Call)) {
 pub fn frame_edges() -> Vec<u32> {
     let lines = [0, 1, 2, 131, frame::LINES - 1, frame::LINES].map(|line| line * frame::LINE_DOTS);
     let near = lines.into_iter().flat_map(|dot| dot.saturating_sub(2)..=dot + 2);
-    let far = [65_535, 65_536, 65_536 + frame::DOTS, 2 * frame::DOTS, 1 << 31, u32::MAX];
+    let far = [CUT - 1, CUT, CUT + frame::DOTS, 2 * frame::DOTS, 1 << 31, u32::MAX];
     near.chain(far).collect()
 }
 
 /// Numbers far past the last line and the last dot, or the lower half of which is a line or a dot.
 const FAR: [u32; 11] = [
-    65_535,
-    65_536,
-    65_536 + frame::LINES - 1,
+    CUT - 1,
+    CUT,
+    CUT + frame::LINES - 1,
     1 << 17,
     2 * frame::DOTS,
     (1 << 17) + frame::DOTS - 1,
@@ -615,7 +756,7 @@ pub fn edge_chains(closed: bool) -> Arena {
 pub fn clocked_arenas(length: usize) -> Vec<Arena> {
     const LAST: u32 = frame::DOTS - 1;
     const PAYLOADS: [[u32; 5]; 4] =
-        [[100, 200, 300, 400, 500], [340, 341, 0, LAST, 682], [LAST + 1, 5, u32::MAX, LAST, 65_541], [7; 5]];
+        [[100, 200, 300, 400, 500], [340, 341, 0, LAST, 682], [LAST + 1, 5, u32::MAX, LAST, CUT + 5], [7; 5]];
     let mut arenas = dressed_arenas(length);
     for (a, payloads) in arenas.iter_mut().zip(PAYLOADS.iter().cycle()) {
         for s in a.link_slots().collect::<Vec<usize>>() {
@@ -653,9 +794,9 @@ pub fn each_due(a: &Arena, found: impl FnMut(Call)) {
 
 /// The same in these windows.
 fn each_due_in(a: &Arena, windows: &[(u32, u32)], mut found: impl FnMut(Call)) {
-    for p in pointers(a) {
-        let stale = !a.is_link(p.slot.into());
-        let chain = if stale { vec![] } else { model::chain_of(a, p.slot.into()) };
+    for p in each_pointer(a) {
+        let stale = !a.is_link(p.slot as usize);
+        let chain = if stale { vec![] } else { model::chain_of(a, p.slot as usize) };
         for &(from, to) in windows {
             found(Call::DueCount(p, from, to));
             let due = chain.iter().filter(|&&s| model::is_due(a.payload[s - 1], from, to)).count();
@@ -663,7 +804,7 @@ fn each_due_in(a: &Arena, windows: &[(u32, u32)], mut found: impl FnMut(Call)) {
             rooms.sort_unstable();
             rooms.dedup();
             for words in rooms {
-                found(Call::DueEvents(p, from, to, vec![0xbeef; words]));
+                found(Call::DueEvents(p, from, to, vec![NOISE; words]));
             }
         }
     }
@@ -685,8 +826,7 @@ pub fn every_call(a: &Arena, slots_of_pairs: usize, mut found: impl FnMut(Call))
     each_due_in(a, &windows_of_slots(), &mut found);
     each_edit(a, &mut found);
     each_insertion(a, &mut found);
-    let pointers = pointers(a);
-    for (&p, &q) in pointers.iter().flat_map(|p| pointers.iter().map(move |q| (p, q))) {
+    for (p, q) in each_two_pointers(a) {
         for kind in kind::DISCONNECTED - 1..=kind::BRIDGE_INX + 1 {
             found(Call::Insert(kind, p, q, kind));
         }
@@ -713,8 +853,8 @@ fn windows_of_slots() -> Vec<(u32, u32)> {
 }
 
 /// Lengths of columns and header for the call that writes a small arena: equal columns of up to five words with a header of four
-/// and of other lengths, unequal ones of every combination of such lengths, equal ones of 300 and of 5,000 words, and about 65,535
-/// words, one column a word longer or shorter or none.
+/// and of other lengths, unequal ones of every combination of such lengths, equal ones of 300 and of 5,000 words, about 65,536 and
+/// 1,048,576 words, one column a word longer or shorter or none, and equal ones of a word less and more than the last.
 pub fn lengths_to_write() -> Vec<[usize; 5]> {
     let equal = |capacity: usize, header: usize| [capacity, capacity, capacity, capacity, header];
     let few = 0..=5;
@@ -727,8 +867,9 @@ pub fn lengths_to_write() -> Vec<[usize; 5]> {
         let unequal = rest.filter(|&(generation, payload)| [next, generation, payload] != [prev; 3]);
         lengths.extend(unequal.map(|(generation, payload)| [prev, next, generation, payload, 4]));
     }
-    lengths.extend([equal(300, 4), equal(5_000, 4)]);
-    for capacity in LIMIT - 1..=LIMIT + 2 {
+    lengths.extend([300, 5_000, LIMIT - 1, LIMIT + 1].map(|capacity| equal(capacity, 4)));
+    let near = CUT as usize;
+    for capacity in [near - 1, near, near + 1, LIMIT] {
         lengths.push(equal(capacity, 4));
         for column in 0..4 {
             for other in [capacity - 1, capacity + 1] {
@@ -741,24 +882,26 @@ pub fn lengths_to_write() -> Vec<[usize; 5]> {
     lengths
 }
 
-/// Indexes of small arenas, all or a few: the first of each stack length among them, the last one and the one past it, numbers whose
-/// lower half or quarter is an index, and random ones.
-pub fn indexes(r: &mut Random, all: bool) -> Vec<u32> {
+/// Indexes of small arenas for columns of a length, all or a few: the first of each stack length among them, the last one and the
+/// one past it, numbers whose lower half or quarter is an index, and random ones. For the longest columns there are two.
+pub fn indexes(r: &mut Random, length: usize, all: bool) -> Vec<u32> {
     const FAR: [u32; 12] = [
         255,
         256,
         256 + 17,
-        65_535,
-        65_536,
-        65_537,
-        65_536 + 89,
+        CUT - 1,
+        CUT,
+        CUT + 1,
+        CUT + 89,
         1 << 24,
         1 << 31,
         (1 << 31) + 89,
         u32::MAX - 1,
         u32::MAX,
     ];
-    if all {
+    if length > 2 * CUT as usize {
+        vec![r.below(90) as u32, 90]
+    } else if all && length < CUT as usize - 1 {
         (0..=100).chain(FAR).chain((0..8).map(|_| r.word())).collect()
     } else {
         vec![0, 1, 4, 17, 89, 90, 256, some_index(r)]
@@ -777,7 +920,7 @@ pub fn old_words(r: &mut Random, noise: &Arena, index: u32) -> [Arena; 6] {
     let unread = r.pick(&[Some(0), Some(u32::MAX), None]);
     for (place, word) in (0..used.stack()).filter_map(|place| Some((place, unread?))) {
         if used.generation[place] == 0 {
-            (used.prev[place], used.payload[place]) = (word as u16, word);
+            (used.prev[place], used.payload[place]) = (word, word);
         }
     }
     [
@@ -792,22 +935,21 @@ pub fn old_words(r: &mut Random, noise: &Arena, index: u32) -> [Arena; 6] {
 
 /// The columns and the header with another word for each.
 fn each_word(a: &Arena, other: impl Fn(u32) -> u32) -> Arena {
-    let narrow = |words: &[u16]| words.iter().map(|&word| other(word.into()) as u16).collect();
-    let wide = |words: &[u32]| words.iter().map(|&word| other(word)).collect();
+    let words = |words: &[u32]| words.iter().map(|&word| other(word)).collect();
     Arena {
-        prev: narrow(&a.prev),
-        next: narrow(&a.next),
-        generation: wide(&a.generation),
-        payload: wide(&a.payload),
-        header: wide(&a.header),
+        prev: words(&a.prev),
+        next: words(&a.next),
+        generation: words(&a.generation),
+        payload: words(&a.payload),
+        header: words(&a.header),
     }
 }
 
 /// The columns and the header with the words of a small arena at their front, as many as they have room for.
 fn laid_over(a: &Arena, small: &Arena) -> Arena {
-    fn over<T: Copy>(words: &[T], front: &[T]) -> Vec<T> {
+    let over = |words: &[u32], front: &[u32]| {
         front.iter().chain(words.iter().skip(front.len())).take(words.len()).copied().collect()
-    }
+    };
     Arena {
         prev: over(&a.prev, &small.prev),
         next: over(&a.next, &small.next),

@@ -3,9 +3,7 @@
 use std::fmt;
 use std::io::{Write, stderr};
 
-#[cfg(crate_text)]
-use crate::Reading;
-use crate::{Archive, Arena, Call, Reply, exports, model, show, side, wrapper};
+use crate::{Archive, Arena, Call, Reading, Reply, demand3, exports, model, show, side, wrapper};
 
 /// What a call leaves: its reply, the slices that it was lent, and the arena.
 #[derive(Clone, Debug, PartialEq, Eq)]
@@ -287,6 +285,9 @@ fn asked_crate(before: &Arena, call: &Call, expected: &Outcome, counts: &mut Cou
         return None;
     }
     if !(1..=11).contains(&expected.reply.number) {
+        if takes_too_long(before, call) {
+            return None;
+        }
         let found = crate_outcome(before, call)?;
         counts.with_crate += 1;
         return (*expected != found).then_some(("crate", Ok(found)));
@@ -309,6 +310,17 @@ fn asked_crate(before: &Arena, call: &Call, expected: &Outcome, counts: &mut Cou
         place => format!("its check of one side at a time fails first{place}"),
     };
     (place != (expected.reply.broken, expected.reply.side)).then(|| ("crate", Err(said())))
+}
+
+/// Whether the crate takes too long for a canonical compression, of an arena that passes the check: it looks for each chain from the
+/// last slot on that it has filled, and so goes over free slots again and again. It is asked about every arena of up to 65,535 slots.
+fn takes_too_long(before: &Arena, call: &Call) -> bool {
+    const STEPS: usize = 1 << 30;
+    if !matches!(call, Call::CompressCanonical(..)) {
+        return false;
+    }
+    let free = before.stack() - before.links();
+    free * before.links() > STEPS && free * demand3::chains(before).len() > STEPS
 }
 
 /// A crate arena that lives through a sequence of calls.

@@ -2,7 +2,7 @@
 //! in the order in which a call refuses (docs/REFERENCE.md), and its own answer must agree with what it was found to hold.
 //! An insertion's two errors are its own.
 
-use std::num::{NonZeroU16, NonZeroU32, NonZeroUsize};
+use std::num::{NonZeroU32, NonZeroUsize};
 use std::sync::OnceLock;
 
 use crate_text::arena::ArenaSlot::{Allocated, Free};
@@ -17,7 +17,7 @@ use crate_text::{
 use crate::header::{GENERATION, LINKS, ROOT, STACK};
 use crate::{Arena, COMMAND_WORDS, Call, LIMIT, Ptr, Reading, Reply, Walk, frame, kind};
 
-crate_text::ptr_struct!(P0[NonZeroU16](NonZeroU32));
+crate_text::ptr_struct!(P0[NonZeroU32](NonZeroU32));
 
 type Chain = ChainArena<P0, u32, StackBacking<LIMIT>>;
 
@@ -25,7 +25,7 @@ type Chain = ChainArena<P0, u32, StackBacking<LIMIT>>;
 pub struct CrateArena {
     chain: Chain,
     /// The slots that the last call's insertions took
-    taken: Vec<u16>,
+    taken: Vec<u32>,
 }
 
 /// What the crate's check says when it refuses, and the number for it. What 1 and 6 are about its types cannot hold.
@@ -42,8 +42,8 @@ const MESSAGES: [(&str, u32); 9] = [
 ];
 
 /// The slot number of an optional index, 0 for none.
-fn slot(inx: Option<NonZeroU16>) -> u16 {
-    inx.map_or(0, NonZeroU16::get)
+fn slot(inx: Option<NonZeroU32>) -> u32 {
+    inx.map_or(0, NonZeroU32::get)
 }
 
 /// The indexes of a stack of `stack` slots.
@@ -53,12 +53,12 @@ fn indexes(stack: usize) -> impl Iterator<Item = NonZeroUsize> {
 
 /// The crate's pointer, if its types can hold this one; if they cannot, the pointer is stale.
 fn held(p: Ptr) -> Option<P0> {
-    Some(P0::_from_raw(NonZeroU16::new(p.slot)?, NonZeroU32::new(p.generation)?))
+    Some(P0::_from_raw(NonZeroU32::new(p.slot)?, NonZeroU32::new(p.generation)?))
 }
 
 /// The crate's name for a kind of insertion with its pointers, if there is such a kind and its types can hold them.
 fn insert_kind(kind: u32, p: Ptr, q: Ptr) -> Option<LinkInsertKind<P0>> {
-    let inx = |p: Ptr| NonZeroU16::new(p.slot);
+    let inx = |p: Ptr| NonZeroU32::new(p.slot);
     Some(match kind {
         kind::DISCONNECTED => LinkInsertKind::Disconnected,
         kind::SINGLE_LINK_CYCLIC => LinkInsertKind::SingleLinkCyclic,
@@ -85,14 +85,13 @@ fn done(answer: InvalidationOption<()>) -> u32 {
 
 impl CrateArena {
     /// The arena of these columns, or none where the crate's types cannot hold it: columns or header of another length,
-    /// over 65,535 slots, a stack over the capacity, a root over 65,535, a free slot that points at 0, generation 0.
+    /// over 1,048,576 slots, a stack over the capacity, a free slot that points at 0, generation 0.
     pub fn hold(a: &Arena) -> Option<Self> {
         let capacity = a.prev.len();
         let others = [a.next.len(), a.generation.len(), a.payload.len()];
         if others != [capacity; 3] || a.header.len() != 4 || a.stack() > capacity {
             return None;
         }
-        let root = u16::try_from(a.header[ROOT]).ok()?;
         let mut chain = Chain::with_min_capacity(capacity).ok()?;
         chain.set_generation(NonZeroU32::new(a.header[GENERATION])?);
         let base = reach::base_mut(&mut chain);
@@ -101,16 +100,16 @@ impl CrateArena {
             let slots = base.backing_mut();
             for place in 0..a.header[STACK] as usize {
                 let entry = match NonZeroU32::new(a.generation[place]) {
-                    None => Free(NonZeroU16::new(a.next[place])?),
+                    None => Free(NonZeroU32::new(a.next[place])?),
                     Some(generation) => {
-                        let around = (NonZeroU16::new(a.prev[place]), NonZeroU16::new(a.next[place]));
+                        let around = (NonZeroU32::new(a.prev[place]), NonZeroU32::new(a.next[place]));
                         Allocated(generation, LinkNoGen::new(around, a.payload[place]))
                     }
                 };
                 slots.push_within_capacity(entry).ok()?;
             }
             base.set_len(a.header[LINKS] as usize);
-            base.set_freelist_root(NonZeroU16::new(root));
+            base.set_freelist_root(NonZeroU32::new(a.header[ROOT]));
         }
         Some(Self { chain, taken: vec![] })
     }
@@ -136,7 +135,7 @@ impl CrateArena {
         let mut a = before.clone();
         let base = reach::base(&self.chain);
         let stack = base.backing().len();
-        for place in self.taken.iter().map(|&slot| usize::from(slot) - 1) {
+        for place in self.taken.iter().map(|&slot| slot as usize - 1) {
             a.prev[place] = 0;
             a.next[place] = 0;
             a.generation[place] = 0;
@@ -169,7 +168,7 @@ impl CrateArena {
         }
         a.header[STACK] = stack as u32;
         a.header[LINKS] = self.chain.len() as u32;
-        a.header[ROOT] = slot(base.freelist_root()).into();
+        a.header[ROOT] = slot(base.freelist_root());
         a.header[GENERATION] = self.chain.generation().get();
         a
     }
@@ -221,7 +220,7 @@ impl CrateArena {
     }
 
     /// The neighbours that the crate has for the pointer's link, or none if it is stale.
-    fn around(&self, p: Ptr) -> Option<(Option<NonZeroU16>, Option<NonZeroU16>)> {
+    fn around(&self, p: Ptr) -> Option<(Option<NonZeroU32>, Option<NonZeroU32>)> {
         self.chain.get_link_no_gen(held(p)?).map(LinkNoGen::prev_next)
     }
 
@@ -230,7 +229,7 @@ impl CrateArena {
         let Some(link) = held(p).and_then(|p| self.chain.get_link(p)) else {
             return Reply::number(12);
         };
-        let words = |p: Option<P0>| p.map_or((0, 0), |p| (p.inx().get().into(), p.generation().get()));
+        let words = |p: Option<P0>| p.map_or((0, 0), |p| (p.inx().get(), p.generation().get()));
         let (prev, next) = (words(link.prev()), words(link.next()));
         Reply::new(0, &[prev.0, prev.1, next.0, next.1, *link.t])
     }
@@ -240,7 +239,7 @@ impl CrateArena {
         let Some(link) = held(p).and_then(|p| self.chain.get_link_no_gen(p)) else {
             return Reply::number(12);
         };
-        Reply::new(0, &[slot(link.prev()).into(), slot(link.next()).into(), link.t])
+        Reply::new(0, &[slot(link.prev()), slot(link.next()), link.t])
     }
 
     /// Whether the crate calls them neighbours; a pointer that it cannot hold has none.
@@ -269,7 +268,7 @@ impl CrateArena {
     /// The links that are due along the crate's own walk, counted and, if there is a report, reported; none if the window is
     /// not one of the frame or the report is shorter than the chain. A payload is due if it is a dot and comes, counted round
     /// the frame from the window's start, before the window's end.
-    fn due(&self, p: Ptr, from: u32, to: u32, mut report: Option<&mut Vec<u16>>) -> Option<Reply> {
+    fn due(&self, p: Ptr, from: u32, to: u32, mut report: Option<&mut Vec<u32>>) -> Option<Reply> {
         let Some(links) = held(p).and_then(|p| self.chain.iter_chain(p)) else {
             return Some(Reply::number(12));
         };
@@ -293,7 +292,7 @@ impl CrateArena {
     fn walk_step(&self, walk: Walk) -> Option<Reply> {
         let mut advancer = advancer_of(walk)?;
         let answer = advancer.advance(&self.chain);
-        let (slot, generation) = answer.map_or((0, 0), |p| (p.inx().get().into(), p.generation().get()));
+        let (slot, generation) = answer.map_or((0, 0), |p| (p.inx().get(), p.generation().get()));
         let after = state_of(advancer);
         // The crate keeps the direction as a bool: a word that means prev stays as it is.
         let direction = if walk.direction != 0 { walk.direction * after.direction } else { after.direction };
@@ -349,7 +348,7 @@ impl CrateArena {
         Some(match self.chain.insert_within_capacity(kind, payload) {
             Ok(p) => {
                 self.taken.push(p.inx().get());
-                Reply::new(0, &[p.inx().get().into(), p.generation().get()])
+                Reply::new(0, &[p.inx().get(), p.generation().get()])
             }
             Err(ChainInsertionError::FailedLinkRequirement) => Reply::number(17),
             Err(ChainInsertionError::NotWithinCapacity) => Reply::number(18),
@@ -367,7 +366,7 @@ impl CrateArena {
             InvalidationResult::GenerationOverflow(link) => (100, link),
             InvalidationResult::InvalidPtr => return Reply::number(12),
         };
-        Reply::new(number, &[slot(link.prev()).into(), slot(link.next()).into(), link.t])
+        Reply::new(number, &[slot(link.prev()), slot(link.next()), link.t])
     }
 
     /// Takes the whole chain out and reports each item as the crate hands it over, or none if the report is too short.
@@ -388,13 +387,7 @@ impl CrateArena {
         let (mut items, mut overflowed) = (0, 0);
         for (item, words) in self.chain.drain_chain(held(p)?)?.zip(report.as_chunks_mut().0) {
             let ((p, link), overflow) = item.overflowing();
-            *words = [
-                p.inx().get().into(),
-                p.generation().get(),
-                slot(link.prev()).into(),
-                slot(link.next()).into(),
-                link.t,
-            ];
+            *words = [p.inx().get(), p.generation().get(), slot(link.prev()), slot(link.next()), link.t];
             items += 1;
             if overflow {
                 assert_eq!(overflowed, 0, "two items of one drain overflowed");
@@ -410,9 +403,8 @@ impl CrateArena {
             return None;
         }
         for (command, answer) in commands.chunks_exact(COMMAND_WORDS).zip(answers) {
-            let ptr = |slot: u32, generation| Ptr { slot: slot.try_into().unwrap_or(0), generation };
-            let p = ptr(command[1], command[2]);
-            let q = ptr(command[3], command[4]);
+            let p = Ptr { slot: command[1], generation: command[2] };
+            let q = Ptr { slot: command[3], generation: command[4] };
             *answer = match command[0] {
                 1 => self.connect(p, q),
                 2 => self.break_prev(p),
@@ -437,18 +429,13 @@ impl CrateArena {
         let mut words = report.as_chunks_mut().0.iter_mut();
         let answer = self.chain.compress_with(reset, |old, _, new| {
             let words = words.next().expect("as many calls as links");
-            *words = [
-                old.inx().get().into(),
-                old.generation().get(),
-                new.inx().get().into(),
-                new.generation().get(),
-            ];
+            *words = [old.inx().get(), old.generation().get(), new.inx().get(), new.generation().get()];
         });
         Some(Reply::number(done(answer)))
     }
 
     /// Compresses canonically, a twin too, whose payloads then say where each link came from. None if 14 is due.
-    fn compress_canonical(&mut self, reset: bool, where_from: &mut [u16]) -> Option<Reply> {
+    fn compress_canonical(&mut self, reset: bool, where_from: &mut [u32]) -> Option<Reply> {
         if where_from.len() != self.chain.capacity() {
             return None;
         }
@@ -459,7 +446,7 @@ impl CrateArena {
         where_from[..stack].fill(0);
         for (place, inx) in indexes(twin.backing().len()).enumerate() {
             if let Some(Allocated(_, link)) = twin.backing().get(inx) {
-                where_from[place] = link.t as u16;
+                where_from[place] = link.t;
             }
         }
         Some(Reply::number(done(answer)))
@@ -496,13 +483,13 @@ impl CrateArena {
     }
 
     /// Visits the links of the pointer's chain by the crate's own iterator: slot and payload.
-    pub fn visit_by_walk(&self, p: Ptr, mut visit: impl FnMut(u16, u32)) -> Option<()> {
+    pub fn visit_by_walk(&self, p: Ptr, mut visit: impl FnMut(u32, u32)) -> Option<()> {
         self.chain.iter_chain(held(p)?)?.for_each(|(p, link)| visit(p.inx().get(), link.t));
         Some(())
     }
 
     /// Visits the same links in the same order by their slots alone, which looks each of them up once and not twice.
-    pub fn visit_by_slots(&self, p: Ptr, mut visit: impl FnMut(u16, u32)) -> Option<()> {
+    pub fn visit_by_slots(&self, p: Ptr, mut visit: impl FnMut(u32, u32)) -> Option<()> {
         let (p, start) = held(p).and_then(|p| Some((p.inx(), self.chain.get_link_no_gen(p)?)))?;
         let (mut inx, mut link) = (p, start);
         loop {
@@ -575,8 +562,8 @@ impl Edit {
     pub fn of(commands: &[u32]) -> Option<Vec<Self>> {
         let edit = |words: &[u32; COMMAND_WORDS]| {
             let [code, slot, generation, other_slot, other_generation, payload] = *words;
-            let p = Ptr { slot: slot as u16, generation };
-            let q = Ptr { slot: other_slot as u16, generation: other_generation };
+            let p = Ptr { slot, generation };
+            let q = Ptr { slot: other_slot, generation: other_generation };
             Some(match code {
                 1 => Self::Connect(held(p)?, held(q)?),
                 2 => Self::BreakPrev(held(p)?),
@@ -605,8 +592,8 @@ fn agreed(number: u32, answer: Option<()>) -> u32 {
 
 /// The fields of the crate's `ChainPtrAdvancer`, of the same types and in the same order.
 struct Mirror {
-    init: NonZeroU16,
-    ptr: Option<NonZeroU16>,
+    init: NonZeroU32,
+    ptr: Option<NonZeroU32>,
     switch: bool,
     max_advances: usize,
 }
@@ -617,12 +604,12 @@ fn state_of(advancer: ChainPtrAdvancer<P0>) -> Walk {
     mirrored(advancer)
 }
 
-/// The advancer in a state, or none if its types cannot hold the state.
+/// The advancer in a state, or none if its types cannot hold the state: its start is 0.
 fn advancer_of(walk: Walk) -> Option<ChainPtrAdvancer<P0>> {
     assert!(mirror_is_true(), "the mirror of the crate's advancer does not show its fields");
     let mirror = Mirror {
-        init: NonZeroU16::new(walk.start.try_into().ok()?)?,
-        ptr: NonZeroU16::new(walk.position.try_into().ok()?),
+        init: NonZeroU32::new(walk.start)?,
+        ptr: NonZeroU32::new(walk.position),
         switch: walk.direction != 0,
         max_advances: walk.left as usize,
     };
@@ -635,8 +622,8 @@ fn mirrored(advancer: ChainPtrAdvancer<P0>) -> Walk {
     // Safety: both have the same size, and every field's type is the same; that the places are the same is probed.
     let mirror = unsafe { std::mem::transmute::<ChainPtrAdvancer<P0>, Mirror>(advancer) };
     Walk {
-        start: mirror.init.get().into(),
-        position: slot(mirror.ptr).into(),
+        start: mirror.init.get(),
+        position: slot(mirror.ptr),
         direction: mirror.switch.into(),
         left: mirror.max_advances as u32,
     }

@@ -88,7 +88,7 @@ fn pieces(a: &Arena) -> Vec<Vec<usize>> {
 }
 
 /// The first point of demand 3 that one compression does not keep, if there is one.
-pub fn broken(old: &Arena, new: &Arena, where_from: &[u16]) -> Option<&'static str> {
+pub fn broken(old: &Arena, new: &Arena, where_from: &[u32]) -> Option<&'static str> {
     let n = old.links();
     if new.header[..3] != [n as u32, n as u32, 0] {
         return Some("filled: the header's first words are n, n and 0");
@@ -96,12 +96,12 @@ pub fn broken(old: &Arena, new: &Arena, where_from: &[u16]) -> Option<&'static s
     if model::check(new) != 0 {
         return Some("filled: the compressed arena is well formed");
     }
-    let mut came: Vec<usize> = where_from[..n].iter().map(|&s| s.into()).collect();
+    let mut came: Vec<usize> = where_from[..n].iter().map(|&s| s as usize).collect();
     came.sort_unstable();
     if came != old.link_slots().collect::<Vec<_>>() {
         return Some("renaming: where the slots came from are the old links, each once");
     }
-    let from = |s: u16| if s == 0 { 0 } else { where_from[s as usize - 1] };
+    let from = |s: u32| if s == 0 { 0 } else { where_from[s as usize - 1] };
     for s in 1..=n {
         let was = where_from[s - 1] as usize;
         if new.payload[s - 1] != old.payload[was - 1] {
@@ -122,7 +122,7 @@ pub fn broken(old: &Arena, new: &Arena, where_from: &[u16]) -> Option<&'static s
         if end != 0 && end != first {
             return Some("pieces: the last link of an open piece has no next");
         }
-        let came = piece.iter().map(|&s| where_from[s - 1].into()).collect();
+        let came = piece.iter().map(|&s| where_from[s - 1]).collect();
         piece_chains.push(Chain::new(end == first, came));
     }
     old_chains.sort_unstable();
@@ -138,7 +138,7 @@ pub fn broken(old: &Arena, new: &Arena, where_from: &[u16]) -> Option<&'static s
 
 /// The first point about further compressions that a later one does not keep, if there is one. Its where-from column is
 /// given if it was not refused.
-pub fn moved(first: &Arena, later: &Arena, where_from: Option<&[u16]>) -> Option<&'static str> {
+pub fn moved(first: &Arena, later: &Arena, where_from: Option<&[u32]>) -> Option<&'static str> {
     let n = first.links();
     if first.header[..3] != later.header[..3] {
         return Some("further compressions: the header's first three words stay");
@@ -149,7 +149,7 @@ pub fn moved(first: &Arena, later: &Arena, where_from: Option<&[u16]>) -> Option
     {
         return Some("further compressions: the words of the links stay");
     }
-    let reads = |from: &[u16]| from[..n].iter().enumerate().all(|(k, &s)| s as usize == k + 1);
+    let reads = |from: &[u32]| from[..n].iter().enumerate().all(|(k, &s)| s as usize == k + 1);
     if where_from.is_some_and(|from| !reads(from)) {
         return Some("further compressions: every link came from its own slot");
     }

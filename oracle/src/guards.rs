@@ -6,18 +6,18 @@ use crate::{Arena, Call, exports};
 /// How many guard words stand at each end of a lent buffer.
 pub const GUARD: usize = 8;
 
-const WIDE: u32 = 0xfeed_f00d;
-const NARROW: u16 = 0xfeed;
+/// What stands in a guard word.
+const FENCE: u32 = 0xfeed_f00d;
 
 /// The words between guard words.
-fn fenced<T: Copy>(words: &[T], guard: T) -> Vec<T> {
-    [&[guard; GUARD][..], words, &[guard; GUARD]].concat()
+fn fenced(words: &[u32]) -> Vec<u32> {
+    [&[FENCE; GUARD][..], words, &[FENCE; GUARD]].concat()
 }
 
 /// Takes the guard words away, and tells whether they were all there.
-fn freed<T: Copy + PartialEq>(words: &mut Vec<T>, guard: T) -> bool {
+fn freed(words: &mut Vec<u32>) -> bool {
     let end = words.len() - GUARD;
-    let stood = words[..GUARD].iter().chain(&words[end..]).all(|&word| word == guard);
+    let stood = words[..GUARD].iter().chain(&words[end..]).all(|&word| word == FENCE);
     words.truncate(end);
     words.drain(..GUARD);
     stood
@@ -26,22 +26,22 @@ fn freed<T: Copy + PartialEq>(words: &mut Vec<T>, guard: T) -> bool {
 /// The arena in buffers with guard words.
 fn fenced_arena(a: &Arena) -> Arena {
     Arena {
-        prev: fenced(&a.prev, NARROW),
-        next: fenced(&a.next, NARROW),
-        generation: fenced(&a.generation, WIDE),
-        payload: fenced(&a.payload, WIDE),
-        header: fenced(&a.header, WIDE),
+        prev: fenced(&a.prev),
+        next: fenced(&a.next),
+        generation: fenced(&a.generation),
+        payload: fenced(&a.payload),
+        header: fenced(&a.header),
     }
 }
 
 /// The call with guard words around the slices that it lends.
 fn fenced_call(call: &Call) -> Call {
     match call {
-        Call::Drain(p, report) => Call::Drain(*p, fenced(report, WIDE)),
-        Call::Run(commands, answers) => Call::Run(fenced(commands, WIDE), fenced(answers, WIDE)),
-        Call::CompressWith(reset, report) => Call::CompressWith(*reset, fenced(report, WIDE)),
-        Call::CompressCanonical(reset, from) => Call::CompressCanonical(*reset, fenced(from, NARROW)),
-        Call::DueEvents(p, from, to, report) => Call::DueEvents(*p, *from, *to, fenced(report, NARROW)),
+        Call::Drain(p, report) => Call::Drain(*p, fenced(report)),
+        Call::Run(commands, answers) => Call::Run(fenced(commands), fenced(answers)),
+        Call::CompressWith(reset, report) => Call::CompressWith(*reset, fenced(report)),
+        Call::CompressCanonical(reset, from) => Call::CompressCanonical(*reset, fenced(from)),
+        Call::DueEvents(p, from, to, report) => Call::DueEvents(*p, *from, *to, fenced(report)),
         _ => call.clone(),
     }
 }
@@ -49,9 +49,11 @@ fn fenced_call(call: &Call) -> Call {
 /// Takes the guard words of a call's slices away, and tells whether they were all there.
 fn freed_call(call: &mut Call) -> bool {
     match call {
-        Call::Drain(_, words) | Call::CompressWith(_, words) => freed(words, WIDE),
-        Call::Run(commands, answers) => freed(commands, WIDE) & freed(answers, WIDE),
-        Call::CompressCanonical(_, words) | Call::DueEvents(.., words) => freed(words, NARROW),
+        Call::Drain(_, words)
+        | Call::CompressWith(_, words)
+        | Call::CompressCanonical(_, words)
+        | Call::DueEvents(.., words) => freed(words),
+        Call::Run(commands, answers) => freed(commands) & freed(answers),
         _ => true,
     }
 }
@@ -70,11 +72,11 @@ fn outcome_by(
     let (mut arena, mut call) = (fenced_arena(before), fenced_call(call));
     let reply = perform(&mut arena, &mut call, GUARD)?;
     let stood = [
-        (freed(&mut arena.prev, NARROW), "prev"),
-        (freed(&mut arena.next, NARROW), "next"),
-        (freed(&mut arena.generation, WIDE), "generation"),
-        (freed(&mut arena.payload, WIDE), "payload"),
-        (freed(&mut arena.header, WIDE), "the header"),
+        (freed(&mut arena.prev), "prev"),
+        (freed(&mut arena.next), "next"),
+        (freed(&mut arena.generation), "generation"),
+        (freed(&mut arena.payload), "payload"),
+        (freed(&mut arena.header), "the header"),
         (freed_call(&mut call), "the lent slice"),
     ];
     Some(match stood.into_iter().find(|(stood, _)| !stood) {
@@ -134,10 +136,11 @@ mod tests {
         for (call, place) in calls.iter().flat_map(|call| (0..2 * GUARD + 2).map(move |place| (call, place)))
         {
             let written = said_of(call, |_, call| match call {
-                Call::Drain(_, words) | Call::Run(_, words) | Call::CompressWith(_, words) => {
-                    words[place] = 1
-                }
-                Call::CompressCanonical(_, words) | Call::DueEvents(.., words) => words[place] = 1,
+                Call::Drain(_, words)
+                | Call::Run(_, words)
+                | Call::CompressWith(_, words)
+                | Call::CompressCanonical(_, words)
+                | Call::DueEvents(.., words) => words[place] = 1,
                 _ => unreachable!("a call that lends nothing"),
             });
             assert_eq!(written.is_ok(), (GUARD..GUARD + 2).contains(&place), "{call:?}");

@@ -24,7 +24,10 @@ pub mod words;
 pub mod wrapper;
 
 /// The largest number of slots that an arena can have.
-pub const LIMIT: usize = 65_535;
+pub const LIMIT: usize = 1_048_576;
+
+/// Numbers that differ by a multiple of this are the same if they are cut to 16 bits.
+pub const CUT: u32 = 65_536;
 
 /// The place of each word in the header.
 pub mod header {
@@ -185,7 +188,7 @@ impl Reading for Arena {
     }
 
     fn ptr(&self, s: usize) -> Ptr {
-        Ptr { slot: s as u16, generation: self.generation[s - 1] }
+        Ptr { slot: s as u32, generation: self.generation[s - 1] }
     }
 }
 
@@ -213,7 +216,7 @@ pub enum Call {
     /// The reset word and the report
     CompressWith(u32, Vec<u32>),
     /// The reset word and the where-from column
-    CompressCanonical(u32, Vec<u16>),
+    CompressCanonical(u32, Vec<u32>),
     /// The kind, its two pointers and the payload
     Insert(u32, Ptr, Ptr, u32),
     /// The dot
@@ -223,7 +226,7 @@ pub enum Call {
     /// The pointer and the window's two ends
     DueCount(Ptr, u32, u32),
     /// The pointer, the window's two ends and the report
-    DueEvents(Ptr, u32, u32, Vec<u16>),
+    DueEvents(Ptr, u32, u32, Vec<u32>),
     /// The index; the arena is written into the columns and the header, whatever they hold
     SmallArena(u32),
 }

@@ -1,6 +1,7 @@
 //! What docs/REFERENCE.md tells, as plain Rust, section by section: slow where that is plainer, and the judge of what the
 //! crate does not tell, as 12 from 13.
 
+use std::collections::BTreeSet;
 use std::sync::OnceLock;
 
 use crate::header::{GENERATION, LINKS, ROOT, STACK};
@@ -112,7 +113,7 @@ fn freelist(a: &Arena, free: usize) -> u32 {
 /// Every place at which rule 11 fails, a slot and a side: of all links those whose prev is neither 0 nor a link with them as
 /// its next, then those whose next is neither 0 nor a link with them as its prev.
 pub fn broken_places(a: &Arena) -> impl Iterator<Item = (u32, u32)> {
-    let failing = |named: &[u16], back: &[u16], x: usize| {
+    let failing = |named: &[u32], back: &[u32], x: usize| {
         let neighbour = named[x - 1] as usize;
         neighbour != 0 && !(a.is_link(neighbour) && back[neighbour - 1] as usize == x)
     };
@@ -135,19 +136,19 @@ fn stale(a: &Arena, p: Ptr) -> bool {
 }
 
 /// The word of a column at slot `s`.
-fn at(column: &[u16], s: u16) -> u16 {
+fn at(column: &[u32], s: u32) -> u32 {
     column[s as usize - 1]
 }
 
 /// Writes the word of a column at slot `s`; slot 0 has none.
-fn put(column: &mut [u16], s: u16, word: u16) {
+fn put(column: &mut [u32], s: u32, word: u32) {
     if s != 0 {
         column[s as usize - 1] = word;
     }
 }
 
 /// The generation of the neighbour in slot `s`, 0 where there is no neighbour.
-fn neighbour_generation(a: &Arena, s: u16) -> u32 {
+fn neighbour_generation(a: &Arena, s: u32) -> u32 {
     if s == 0 { 0 } else { a.generation[s as usize - 1] }
 }
 
@@ -158,10 +159,7 @@ fn get_link(a: &Arena, p: Ptr) -> Reply {
     }
     let (prev, next) = (at(&a.prev, p.slot), at(&a.next, p.slot));
     let payload = a.payload[p.slot as usize - 1];
-    Reply::new(
-        0,
-        &[prev.into(), neighbour_generation(a, prev), next.into(), neighbour_generation(a, next), payload],
-    )
+    Reply::new(0, &[prev, neighbour_generation(a, prev), next, neighbour_generation(a, next), payload])
 }
 
 /// The link's neighbours and its payload.
@@ -170,7 +168,7 @@ fn get_link_no_gen(a: &Arena, p: Ptr) -> Reply {
         return Reply::number(12);
     }
     let payload = a.payload[p.slot as usize - 1];
-    Reply::new(0, &[at(&a.prev, p.slot).into(), at(&a.next, p.slot).into(), payload])
+    Reply::new(0, &[at(&a.prev, p.slot), at(&a.next, p.slot), payload])
 }
 
 /// Whether both pointers name links and the second's is the first's next.
@@ -185,7 +183,7 @@ fn walk_start(a: &Arena, p: Ptr) -> Reply {
     if stale(a, p) {
         return Reply::number(12);
     }
-    Reply::new(0, &[p.slot.into(), p.slot.into(), 0, a.header[LINKS]])
+    Reply::new(0, &[p.slot, p.slot, 0, a.header[LINKS]])
 }
 
 /// One step on an arena that passes the check: the link at the position, or none, and the next state.
@@ -205,13 +203,13 @@ pub fn walk_step(a: &Arena, walk: Walk) -> Reply {
 fn advanced(a: &Arena, walk: Walk) -> Walk {
     let here = walk.position as usize - 1;
     if walk.direction != 0 {
-        return Walk { position: a.prev[here].into(), ..walk };
+        return Walk { position: a.prev[here], ..walk };
     }
-    let next = u32::from(a.next[here]);
+    let next = a.next[here];
     if next == 0 {
         let start = walk.start as usize;
         let before = if a.is_link(start) { a.prev[start - 1] } else { 0 };
-        return Walk { direction: 1, position: before.into(), ..walk };
+        return Walk { direction: 1, position: before, ..walk };
     }
     Walk { position: if next == walk.start { 0 } else { next }, ..walk }
 }
@@ -219,7 +217,7 @@ fn advanced(a: &Arena, walk: Walk) -> Walk {
 /// The reply of a step: the pointer that it answers, 0 and 0 for none, and the state.
 fn step_reply(number: u32, answer: Option<Ptr>, walk: Walk) -> Reply {
     let p = answer.unwrap_or(Ptr { slot: 0, generation: 0 });
-    Reply::new(number, &[p.slot.into(), p.generation, walk.start, walk.position, walk.direction, walk.left])
+    Reply::new(number, &[p.slot, p.generation, walk.start, walk.position, walk.direction, walk.left])
 }
 
 /// The slots of the chain of the link in slot `s`, in the walk's order.
@@ -292,13 +290,13 @@ fn due_count(a: &Arena, p: Ptr, from: u32, to: u32) -> Reply {
 }
 
 /// Reports the slots of the links that are due, if the report has room for the whole chain.
-fn due_events(a: &Arena, p: Ptr, from: u32, to: u32, report: &mut [u16]) -> Reply {
+fn due_events(a: &Arena, p: Ptr, from: u32, to: u32, report: &mut [u32]) -> Reply {
     match due(a, p, from, to) {
         Err(number) => Reply::number(number),
         Ok((chain, _)) if report.len() < chain.len() => Reply::number(14),
         Ok((_, events)) => {
             for (word, &s) in report.iter_mut().zip(&events) {
-                *word = s as u16;
+                *word = s as u32;
             }
             Reply::new(0, &[events.len() as u32])
         }
@@ -404,12 +402,12 @@ fn insert(a: &mut Arena, kind: u32, p: Ptr, q: Ptr, payload: u32) -> Reply {
             join(a, new, q);
         }
     }
-    Reply::new(0, &[new.into(), a.current()])
+    Reply::new(0, &[new, a.current()])
 }
 
 /// Whether what a kind asks of the links that it names is so. A kind by slot looks at no generation.
 pub fn may_insert(a: &Arena, kind: u32, p: Ptr, q: Ptr) -> bool {
-    let good = |p: Ptr| if kind::by_slot(kind) { a.is_link(p.slot.into()) } else { !stale(a, p) };
+    let good = |p: Ptr| if kind::by_slot(kind) { a.is_link(p.slot as usize) } else { !stale(a, p) };
     let is_end = |p: Ptr| at(&a.next, p.slot) == 0;
     let is_start = |p: Ptr| at(&a.prev, p.slot) == 0;
     match kind {
@@ -428,7 +426,7 @@ pub fn slot_to_take(a: &Arena) -> usize {
 }
 
 /// Adds a link of the current generation without neighbours and answers its slot; none if there is no room.
-fn add_lone(a: &mut Arena, payload: u32) -> Option<u16> {
+fn add_lone(a: &mut Arena, payload: u32) -> Option<u32> {
     let s = slot_to_take(a);
     if s > a.capacity() {
         return None;
@@ -442,11 +440,11 @@ fn add_lone(a: &mut Arena, payload: u32) -> Option<u16> {
     (a.prev[s - 1], a.next[s - 1]) = (0, 0);
     (a.generation[s - 1], a.payload[s - 1]) = (a.current(), payload);
     a.header[LINKS] += 1;
-    Some(s as u16)
+    Some(s as u32)
 }
 
 /// Makes two links neighbours; where one of them is slot 0, the other has no neighbour on that side.
-fn join(a: &mut Arena, before: u16, after: u16) {
+fn join(a: &mut Arena, before: u32, after: u32) {
     put(&mut a.next, before, after);
     put(&mut a.prev, after, before);
 }
@@ -488,7 +486,7 @@ fn free_slot(a: &mut Arena, s: usize) {
         a.header[STACK] -= 1;
     } else {
         let old_root = a.root();
-        a.next[s - 1] = if old_root == 0 { s as u16 } else { old_root as u16 };
+        a.next[s - 1] = if old_root == 0 { s as u32 } else { old_root };
         a.header[ROOT] = s as u32;
     }
     a.header[LINKS] -= 1;
@@ -509,7 +507,7 @@ fn remove(a: &mut Arena, p: Ptr) -> Reply {
         return Reply::number(12);
     }
     let s = p.slot as usize;
-    let words = [a.prev[s - 1].into(), a.next[s - 1].into(), a.payload[s - 1]];
+    let words = [a.prev[s - 1], a.next[s - 1], a.payload[s - 1]];
     let overflowed = remove_slot(a, s);
     Reply::new(overflow_number(overflowed), &words)
 }
@@ -528,8 +526,8 @@ fn drain(a: &mut Arena, p: Ptr, report: &mut [u32]) -> Reply {
         let place = s - 1;
         report[5 * item] = s as u32;
         report[5 * item + 1] = a.generation[place];
-        report[5 * item + 2] = a.prev[place].into();
-        report[5 * item + 3] = a.next[place].into();
+        report[5 * item + 2] = a.prev[place];
+        report[5 * item + 3] = a.next[place];
         report[5 * item + 4] = a.payload[place];
         if remove_slot(a, s) {
             overflowed = item as u32 + 1;
@@ -555,7 +553,7 @@ fn canonicalize_freelist(a: &mut Arena) -> u32 {
     }
     let free: Vec<usize> = (1..=a.stack()).filter(|&s| !a.is_link(s)).collect();
     for (k, &s) in free.iter().enumerate() {
-        a.next[s - 1] = *free.get(k + 1).unwrap_or(&s) as u16;
+        a.next[s - 1] = *free.get(k + 1).unwrap_or(&s) as u32;
     }
     a.header[ROOT] = free.first().map_or(0, |&s| s as u32);
     0
@@ -577,22 +575,17 @@ fn run(a: &mut Arena, commands: &[u32], answers: &mut [u32]) -> u32 {
     0
 }
 
-/// A pointer of a command. Slots over 65,535 are stale, as slot 0 is.
-fn command_ptr(slot: u32, generation: u32) -> Ptr {
-    Ptr { slot: u16::try_from(slot).unwrap_or(0), generation }
-}
-
 /// Applies one command of a run to an arena that passes the check, and answers its word.
 pub fn apply(a: &mut Arena, command: &[u32]) -> u32 {
-    let p = command_ptr(command[1], command[2]);
-    let q = command_ptr(command[3], command[4]);
+    let p = Ptr { slot: command[1], generation: command[2] };
+    let q = Ptr { slot: command[3], generation: command[4] };
     match command[0] {
         1 => connect(a, p, q),
         2 => break_prev(a, p),
         3 => break_next(a, p),
         4 => exchange_next(a, p, q),
         5 => remove(a, p).number,
-        code => insert(a, code, p, q, command[5]).number,
+        kind => insert(a, kind, p, q, command[5]).number,
     }
 }
 
@@ -632,9 +625,9 @@ fn compress_with(a: &mut Arena, reset: bool, report: &mut [u32]) -> u32 {
     }
     let old = a.clone();
     let overflowed = compression_generation(a, reset);
-    let mut new_slot = vec![0u16; old.stack() + 1];
+    let mut new_slot = vec![0; old.stack() + 1];
     for (k, s) in old.link_slots().enumerate() {
-        new_slot[s] = k as u16 + 1;
+        new_slot[s] = k as u32 + 1;
         report[4 * k] = s as u32;
         report[4 * k + 1] = old.generation[s - 1];
         report[4 * k + 2] = k as u32 + 1;
@@ -649,18 +642,24 @@ fn compress_with(a: &mut Arena, reset: bool, report: &mut [u32]) -> u32 {
     overflow_number(overflowed)
 }
 
-/// Canonical compression: chain by chain, each link is exchanged with whatever is in slot i.
-fn compress_canonical(a: &mut Arena, reset: bool, where_from: &mut [u16]) -> u32 {
+/// Canonical compression: chain by chain, each link is exchanged with whatever is in slot i. The slots of the links that wait
+/// for their turn are kept in order, so that the lowest is found without a search.
+fn compress_canonical(a: &mut Arena, reset: bool, where_from: &mut [u32]) -> u32 {
     if where_from.len() != a.capacity() {
         return 14;
     }
     let overflowed = compression_generation(a, reset);
-    let mut from: Vec<u16> = (0..=a.stack() as u16).collect();
+    let mut from: Vec<u32> = (0..=a.stack() as u32).collect();
+    let mut waiting: BTreeSet<usize> = a.link_slots().collect();
     let mut i = 1;
-    while let Some(lowest) = (i..=a.stack()).find(|&s| a.is_link(s)) {
+    while let Some(&lowest) = waiting.first() {
         let first = i;
         let mut target = start_of(a, lowest);
         loop {
+            // A link that was in slot i waits in the target's slot from now on.
+            if !waiting.remove(&i) {
+                waiting.remove(&target);
+            }
             exchange_slots(a, &mut from, i, target);
             target = a.next[i - 1] as usize;
             i += 1;
@@ -690,7 +689,7 @@ fn start_of(a: &Arena, s: usize) -> usize {
 }
 
 /// Exchanges slots `i` and `t` with all their words, and renames both in their neighbours.
-fn exchange_slots(a: &mut Arena, from: &mut [u16], i: usize, t: usize) {
+fn exchange_slots(a: &mut Arena, from: &mut [u32], i: usize, t: usize) {
     if i == t {
         return;
     }
@@ -719,8 +718,8 @@ fn exchange_slots(a: &mut Arena, from: &mut [u16], i: usize, t: usize) {
     from.swap(i, t);
     for s in touched.into_iter().map(exchanged) {
         if a.is_link(s) {
-            a.prev[s - 1] = exchanged(a.prev[s - 1] as usize) as u16;
-            a.next[s - 1] = exchanged(a.next[s - 1] as usize) as u16;
+            a.prev[s - 1] = exchanged(a.prev[s - 1] as usize) as u32;
+            a.next[s - 1] = exchanged(a.next[s - 1] as usize) as u32;
         }
     }
 }
@@ -781,9 +780,9 @@ fn each_tuple(a: &mut Arena, s: usize, found: &mut Vec<Arena>) {
     }
     for generation in [0, 2] {
         (a.generation[s - 1], a.payload[s - 1]) = (generation, if generation == 0 { 0 } else { s as u32 });
-        for prev in 0..=length {
-            for next in 0..=length {
-                (a.prev[s - 1], a.next[s - 1]) = (prev as u16, next as u16);
+        for prev in 0..=length as u32 {
+            for next in 0..=length as u32 {
+                (a.prev[s - 1], a.next[s - 1]) = (prev, next);
                 each_tuple(a, s + 1, found);
             }
         }

@@ -44,7 +44,7 @@ fn carried(before: &Arena, after: &Outcome) -> Vec<u32> {
         Call::CompressWith(_, report) => {
             report.as_chunks::<4>().0.iter().map(|words| words[0] as usize).collect()
         }
-        Call::CompressCanonical(_, places) => places.iter().map(|&slot| slot.into()).collect(),
+        Call::CompressCanonical(_, places) => places.iter().map(|&slot| slot as usize).collect(),
         _ => return payloads,
     };
     payloads[..before.stack()].fill(0);

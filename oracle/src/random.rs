@@ -1,7 +1,7 @@
 //! Random arenas from a seed: whole ones of every kind, and damage to them.
 
 use crate::header::{GENERATION, LINKS, ROOT, STACK};
-use crate::{Arena, LIMIT, Reading, frame, model};
+use crate::{Arena, CUT, LIMIT, Reading, frame, model};
 
 /// A xorshift generator; the same seed gives the same numbers everywhere.
 pub struct Random(u64);
@@ -57,6 +57,15 @@ impl Random {
     }
 }
 
+/// Multiples of 65,536: a slot that is raised by one of them is another one, and the same again if it is cut to 16 bits, by
+/// some of them also if it is cut to 17, 20 or 21 bits.
+pub const RAISES: [u32; 6] = [CUT, 2 * CUT, 16 * CUT, 32 * CUT, 1 << 31, u32::MAX - CUT + 1];
+
+/// The slot raised by a multiple of 65,536.
+pub fn raised(r: &mut Random, slot: u32) -> u32 {
+    slot.wrapping_add(r.pick(&RAISES))
+}
+
 /// How the links of an arena are chained.
 #[derive(Clone, Copy, Debug, PartialEq, Eq)]
 pub struct Style {
@@ -66,7 +75,7 @@ pub struct Style {
     pub longest: usize,
     /// Whether every chain is as long as the longest
     pub even: bool,
-    /// Whether a chain's slots lie anywhere, or rise one by one
+    /// Whether a chain's slots lie anywhere, or in order
     pub scattered: bool,
     /// Of 16 chains, how many are closed
     pub closed: usize,
@@ -87,9 +96,20 @@ impl Style {
 
 /// An arena that passes the check, with noise in every word that is not read.
 pub fn whole(r: &mut Random, capacity: usize, stack: usize, style: Style) -> Arena {
-    let mut a = noise(r, capacity);
+    whole_in_order(r, capacity, (1..=stack).collect(), style)
+}
+
+/// The slots of a large stack, each followed by those that are the same if they are cut to 16 bits.
+pub fn twins(stack: usize) -> Vec<usize> {
+    let cut = CUT as usize;
+    (1..=cut).flat_map(|s| (s..=stack).step_by(cut)).collect()
+}
+
+/// An arena whose chains and freelist go through the slots of its stack in this order, if they are not scattered.
+pub fn whole_in_order(r: &mut Random, capacity: usize, slots: Vec<usize>, style: Style) -> Arena {
+    let (mut a, stack) = (noise(r, capacity), slots.len());
     let (mut links, mut free): (Vec<usize>, Vec<usize>) =
-        (1..=stack).partition(|_| r.below(16) >= style.free);
+        slots.into_iter().partition(|_| r.below(16) >= style.free);
     if style.scattered {
         r.shuffle(&mut links);
         r.shuffle(&mut free);
@@ -109,6 +129,31 @@ pub fn whole(r: &mut Random, capacity: usize, stack: usize, style: Style) -> Are
     a.header[STACK] = stack as u32;
     a.header[LINKS] = links.len() as u32;
     a
+}
+
+/// The arena with 65,536 free slots before its own, listed in any order before its own free ones.
+pub fn behind_free_slots(r: &mut Random, a: &Arena) -> Arena {
+    let (cut, mut all) = (CUT as usize, noise(r, CUT as usize));
+    let raised = |&word: &u32| if word == 0 { 0 } else { word + CUT };
+    for place in 0..a.stack() {
+        // A free slot's prev is not read, and may be too large to be raised.
+        let prev = if a.is_link(place + 1) { raised(&a.prev[place]) } else { a.prev[place] };
+        all.prev.push(prev);
+        all.next.push(raised(&a.next[place]));
+    }
+    all.prev.extend(&a.prev[a.stack()..]);
+    all.next.extend(&a.next[a.stack()..]);
+    all.generation.extend(&a.generation);
+    all.payload.extend(&a.payload);
+    all.generation[..cut].fill(0);
+    let mut free: Vec<usize> = (1..=cut).collect();
+    r.shuffle(&mut free);
+    list_free(&mut all, &free);
+    if a.root() != 0 {
+        all.next[free[cut - 1] - 1] = a.root() + CUT;
+    }
+    all.header = vec![a.header[STACK] + CUT, a.header[LINKS], all.root(), a.current()];
+    all
 }
 
 /// An arena without a slot on its stack, with noise in every column.
@@ -162,14 +207,13 @@ fn noise(r: &mut Random, capacity: usize) -> Arena {
 
 /// Columns and a header of these lengths with noise in every word.
 pub fn noisy(r: &mut Random, [prev, next, generation, payload, header]: [usize; 5]) -> Arena {
-    let narrow = |r: &mut Random, words| (0..words).map(|_| r.word() as u16).collect();
-    let wide = |r: &mut Random, words| (0..words).map(|_| r.word()).collect();
+    let mut words = |count| (0..count).map(|_| r.word()).collect();
     Arena {
-        prev: narrow(r, prev),
-        next: narrow(r, next),
-        generation: wide(r, generation),
-        payload: wide(r, payload),
-        header: wide(r, header),
+        prev: words(prev),
+        next: words(next),
+        generation: words(generation),
+        payload: words(payload),
+        header: words(header),
     }
 }
 
@@ -190,7 +234,7 @@ fn generations(r: &mut Random, a: &mut Arena, links: &[usize]) {
 /// Lists the free slots in the given order, the last pointing at itself.
 fn list_free(a: &mut Arena, free: &[usize]) {
     for (k, &s) in free.iter().enumerate() {
-        a.next[s - 1] = *free.get(k + 1).unwrap_or(&s) as u16;
+        a.next[s - 1] = *free.get(k + 1).unwrap_or(&s) as u32;
     }
     a.header[ROOT] = free.first().map_or(0, |&s| s as u32);
 }
@@ -199,8 +243,8 @@ fn list_free(a: &mut Arena, free: &[usize]) {
 fn chain(a: &mut Arena, slots: &[usize], closed: bool) {
     let ends = if closed { (slots[slots.len() - 1], slots[0]) } else { (0, 0) };
     for (k, &s) in slots.iter().enumerate() {
-        a.prev[s - 1] = if k == 0 { ends.0 } else { slots[k - 1] } as u16;
-        a.next[s - 1] = slots.get(k + 1).copied().unwrap_or(ends.1) as u16;
+        a.prev[s - 1] = if k == 0 { ends.0 } else { slots[k - 1] } as u32;
+        a.next[s - 1] = slots.get(k + 1).copied().unwrap_or(ends.1) as u32;
     }
 }
 
@@ -210,7 +254,7 @@ pub fn some_dot(r: &mut Random) -> u32 {
     let anywhere = r.word();
     match r.below(12) {
         0 => r.pick(&[0, frame::DOTS - 2, frame::DOTS - 1, frame::DOTS]),
-        1 => r.pick(&[frame::DOTS, frame::DOTS + 1, 65_536 + line, u32::MAX, anywhere]),
+        1 => r.pick(&[frame::DOTS, frame::DOTS + 1, CUT + line, u32::MAX, anywhere]),
         2 | 3 => line,
         4 | 5 => line + frame::LINE_DOTS - 1,
         _ => r.below(frame::DOTS as usize) as u32,
@@ -235,14 +279,18 @@ fn some_slot_of(r: &mut Random, a: &Arena, free: bool) -> usize {
     slots.filter(|&s| s != 0).find(|&s| a.is_link(s) != free).unwrap_or(0)
 }
 
-/// A slot number to point at: in the stack, just past it, 0 or anything.
-fn some_target(r: &mut Random, a: &Arena) -> u16 {
-    match r.below(8) {
+/// A slot number to point at: in the stack, just past it, 0 or anything, or 0 or a slot raised by a
+/// multiple of 65,536.
+fn some_target(r: &mut Random, a: &Arena) -> u32 {
+    let slot = some_slot(r, a) as u32;
+    match r.below(10) {
         0 => 0,
-        1 => (a.stack() + 1) as u16,
-        2 => r.word() as u16,
-        3 => u16::MAX,
-        _ => some_slot(r, a) as u16,
+        1 => a.header[STACK].wrapping_add(1),
+        2 => r.word(),
+        3 => u32::MAX,
+        4 => raised(r, 0),
+        5 => raised(r, slot),
+        _ => slot,
     }
 }
 
@@ -263,11 +311,8 @@ fn damage_link(r: &mut Random, a: &mut Arena) {
     let s = some_slot_of(r, a, false);
     let target = some_target(r, a);
     if s != 0 {
-        if r.once_in(2) {
-            a.prev[s - 1] = target;
-        } else {
-            a.next[s - 1] = target;
-        }
+        let word = if r.once_in(2) { &mut a.prev[s - 1] } else { &mut a.next[s - 1] };
+        *word = if r.once_in(4) { raised(r, *word) } else { target };
     }
 }
 
@@ -277,11 +322,12 @@ fn damage_freelist(r: &mut Random, a: &mut Arena) {
     if s == 0 {
         return;
     }
-    a.next[s - 1] = match r.below(6) {
-        0 | 1 => a.root() as u16,
-        2 => s as u16,
-        3 => some_slot_of(r, a, true) as u16,
-        4 => some_slot_of(r, a, false) as u16,
+    a.next[s - 1] = match r.below(7) {
+        0 | 1 => a.root(),
+        2 => s as u32,
+        3 => some_slot_of(r, a, true) as u32,
+        4 => some_slot_of(r, a, false) as u32,
+        5 => raised(r, a.next[s - 1]),
         _ => some_target(r, a),
     };
 }
@@ -289,14 +335,18 @@ fn damage_freelist(r: &mut Random, a: &mut Arena) {
 /// Writes over a word of the header.
 fn damage_header(r: &mut Random, a: &mut Arena) {
     let (stack, capacity) = (a.header[STACK], a.capacity() as u32);
-    match r.below(10) {
+    match r.below(11) {
         0 | 1 => a.header[LINKS] = a.header[LINKS].wrapping_add(r.pick(&[1, u32::MAX])),
         2 => a.header[LINKS] = r.pick(&[0, capacity, capacity + 1, u32::MAX]),
         3 => a.header[ROOT] = 0,
-        4 => a.header[ROOT] = some_target(r, a).into(),
-        5 => a.header[ROOT] = r.pick(&[65_536, 65_536 + stack, u32::MAX]),
+        4 => a.header[ROOT] = some_target(r, a),
+        5 => a.header[ROOT] = r.pick(&[CUT, CUT + stack, u32::MAX]),
         6 => a.header[STACK] = stack.wrapping_sub(1).min(capacity + 1),
         7 => a.header[STACK] = r.pick(&[stack + 1, capacity, capacity + 1, u32::MAX]),
+        8 => {
+            let word = r.pick(&[STACK, LINKS, ROOT]);
+            a.header[word] = raised(r, a.header[word]);
+        }
         _ => a.header[GENERATION] = r.pick(&[0, 1, 2, u32::MAX]),
     }
 }
@@ -389,17 +439,18 @@ pub fn with_broken_links(r: &mut Random, stack: usize, near: Near) -> Arena {
 }
 
 /// Makes a link name on one side a slot that is above the stack or free, or a link that names another one or none in turn,
-/// if there is such a slot. If the link had a neighbour on that side, that one is broken too, or the two are parted before.
-/// Where nobody looks, above the stack and at the prev of a free slot, stands what would be right if the slot were a link.
+/// if there is such a slot; or what it named raised by a multiple of 65,536. If the link had a neighbour on
+/// that side, that one is broken too, or the two are parted before. Where nobody looks, above the stack and at the prev of a free slot, stands what would be right if the slot were a link.
 fn break_link(r: &mut Random, a: &mut Arena, s: usize, parted: bool) {
     let by_prev = r.once_in(2);
     if parted {
         part(a, s, by_prev);
     }
-    let (stack, way) = (a.stack(), r.below(4));
+    let (stack, way) = (a.stack(), r.below(5));
     let target = match way {
-        0 => r.pick(&[stack + 1, stack + 1, stack + 2, LIMIT]).max(stack + 1),
+        0 => r.pick(&[stack + 1, stack + 1, stack + 2, LIMIT, u32::MAX as usize]).max(stack + 1),
         1 => some_slot_of(r, a, true),
+        4 => raised(r, if by_prev { a.prev[s - 1] } else { a.next[s - 1] }) as usize,
         _ => {
             let back = if by_prev { &a.next } else { &a.prev };
             let wanted = |t: &usize| match back[t - 1] as usize {
@@ -410,16 +461,16 @@ fn break_link(r: &mut Random, a: &mut Arena, s: usize, parted: bool) {
             (first..=stack).chain(1..first).filter(|&t| a.is_link(t)).find(wanted).unwrap_or(0)
         }
     };
-    if target == 0 || target > LIMIT {
+    if target == 0 {
         return;
     }
     let (named, back) = if by_prev { (&mut a.prev, &mut a.next) } else { (&mut a.next, &mut a.prev) };
-    named[s - 1] = target as u16;
+    named[s - 1] = target as u32;
     if target > stack && target <= back.len() {
-        back[target - 1] = s as u16;
+        back[target - 1] = s as u32;
         a.generation[target - 1] = r.pick(&[0, 5, 5]);
     } else if way == 1 && !by_prev {
-        back[target - 1] = s as u16;
+        back[target - 1] = s as u32;
     }
 }
 

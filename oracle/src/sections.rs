@@ -4,15 +4,17 @@
 use std::collections::HashSet;
 
 use crate::calls::{
-    Tide, call_of, each_call, keep, mixed_commands, mixed_edits, some_call, some_commands, some_walk,
+    Tide, call_of, each_call, growth, keep, mixed_commands, mixed_edits, some_call, some_commands, some_walk,
     with_dots,
 };
 use crate::cases;
 use crate::compare::{Counts, Live, Mismatch, Outcome, Product, compare, model_outcome};
 use crate::random::{self, Near, Random, Style};
 use crate::runner::{Jobs, Judge};
-use crate::words::{DUE_COUNT, DUE_EVENTS, SMALL_ARENA};
-use crate::{Arena, COMMAND_WORDS, Call, LIMIT, Ptr, Reading, Walk, demand3, kind, model, payloads};
+use crate::words::{DUE_COUNT, DUE_EVENTS, INSERT, SMALL_ARENA, calls_on_arenas};
+use crate::{
+    Arena, COMMAND_WORDS, CUT, Call, LIMIT, Ptr, Reading, Walk, demand3, frame, kind, model, payloads,
+};
 
 /// The short form is for every run of the gate, the long one for once.
 #[derive(Clone, Copy, PartialEq, Eq)]
@@ -43,7 +45,7 @@ pub struct Section {
 pub const WITHOUT_CRATE: [&str; 1] = ["lines"];
 
 /// All sections, of all that is sold.
-pub const SECTIONS: [Section; 27] = [
+pub const SECTIONS: [Section; 30] = [
     Section {
         name: "tuples",
         what: "the check on every tuple of words of stack length 0 to 3, at two capacities",
@@ -52,7 +54,7 @@ pub const SECTIONS: [Section; 27] = [
     },
     Section {
         name: "shapes",
-        what: "the check on unequal columns, other headers, capacities around 65,535",
+        what: "the check on unequal columns, other headers, capacities around 65,536 and 1,048,576",
         numbers: &[1],
         jobs: |_| shapes(),
     },
@@ -76,7 +78,7 @@ pub const SECTIONS: [Section; 27] = [
     },
     Section {
         name: "steps",
-        what: "steps of any state words, over 65,535 too",
+        what: "steps of any state words, over the capacity too",
         numbers: &[0],
         jobs: |form| every(form.of(3, 4), |a, found| cases::each_wide_step(a, found)),
     },
@@ -142,7 +144,7 @@ pub const SECTIONS: [Section; 27] = [
     },
     Section {
         name: "payloads",
-        what: "both compressions of arenas that differ in payloads alone: every small one, and random ones of up to 65,535 slots",
+        what: "both compressions of arenas that differ in payloads alone: every small one, and random ones of up to 1,048,576 slots",
         numbers: &[0, 14, 100],
         jobs: |form| other_payloads(form.of(4, 5), form.of(2_000, 40_000)),
     },
@@ -154,19 +156,19 @@ pub const SECTIONS: [Section; 27] = [
     },
     Section {
         name: "large_sequences",
-        what: "sequences of 80 calls on arenas of 2,048 to 65,535 slots",
+        what: "sequences of 80 calls on arenas of 2,048 to 70,000 slots",
         numbers: &[0, 12, 17],
         jobs: |form| large_sequences(form.of(40, 800)),
     },
     Section {
         name: "grown",
-        what: "sequences that fill and empty arenas of 0 to 65,535 slots, from empty on, with demand 3 by program",
+        what: "sequences that fill and empty arenas of 0 to 70,000 slots, from empty on, with demand 3 by program",
         numbers: &[0, 12, 13, 17, 18],
         jobs: |form| grown(form.of(1_000, 20_000)),
     },
     Section {
         name: "long_runs",
-        what: "runs of up to 200,000 commands on arenas of up to 65,535 slots",
+        what: "runs of up to 200,000 commands on arenas of up to 1,048,576 slots",
         numbers: &[],
         jobs: |form| long_runs(form.of(60, 1_200)),
     },
@@ -178,13 +180,13 @@ pub const SECTIONS: [Section; 27] = [
     },
     Section {
         name: "random_compressions",
-        what: "both compressions of random arenas of up to 65,535 slots, with demand 3 by program",
+        what: "both compressions of random arenas of up to 1,048,576 slots, with demand 3 by program",
         numbers: &[0, 100],
         jobs: |form| random_compressions(form.of(3_000, 60_000)),
     },
     Section {
         name: "random_due",
-        what: "what is due of the chains of random arenas of up to 65,535 slots",
+        what: "what is due of the chains of random arenas of up to 1,048,576 slots",
         numbers: &[0, 12, 14, 19],
         jobs: |form| random_due(form.of(20_000, 400_000)),
     },
@@ -202,25 +204,54 @@ pub const SECTIONS: [Section; 27] = [
     },
     Section {
         name: "random_broken",
-        what: "random arenas of up to 65,535 slots with one, two or many broken links, through every call",
+        what: "random arenas of up to 1,048,576 slots with one, two or many broken links, through every call",
         numbers: &[11],
         jobs: |form| random_broken(form.of(20_000, 400_000)),
     },
+    Section {
+        name: "raised_words",
+        what: "every small arena with one word that names or counts slots raised by a multiple of 65,536, through every call",
+        numbers: &[3, 5, 7, 11],
+        jobs: |form| raised_words(form.of(3, 4)),
+    },
+    Section {
+        name: "far_slots",
+        what: "every call on arenas of more than 65,536 slots, with pointers and states around slot 65,536 and above it",
+        numbers: &[0, 12],
+        jobs: |form| far_slots(form.of(8, 160)),
+    },
+    Section {
+        name: "largest",
+        what: "every call on arenas of 1,048,576 slots, grown from empty too, both compressions with demand 3 by program",
+        numbers: &[],
+        jobs: |form| largest(form.of(1, 20)),
+    },
 ];
+
+/// How many slots the large arena of a turn has: 65,535, 65,536, or a little more than that or than 131,072; and once in so many turns
+/// any number up to the limit, or the limit.
+fn many(r: &mut Random, turn: usize, seldom: usize) -> usize {
+    let (near, more, any) = (CUT as usize, r.below(5_000), 1 + r.below(LIMIT));
+    if turn % seldom == seldom - 1 {
+        return r.pick(&[LIMIT, any]);
+    }
+    [near + more, near + 1, near + more % 100, 2 * near + more, near - 1, near][turn % 6]
+}
 
 // Small arenas
 
-/// Every index on equal columns of up to 5,000 words, in the long form on unequal ones too, and some indexes on all others: columns
-/// and headers of every length that matters, with noise in every word, equal columns with old words of other kinds too.
+/// Every index on equal columns of up to 5,000 words, in the long form on unequal ones too, and some indexes on all others, two on
+/// the longest: columns and headers of every length that matters, with noise in every word, equal columns with old words of other
+/// kinds too.
 fn small_calls(form: Form) -> Jobs {
     let lengths = cases::lengths_to_write();
     Jobs::new(lengths.len(), move |judge, r, number| {
         let noise = random::noisy(r, lengths[number]);
         let equal = lengths[number][..4] == [noise.capacity(); 4];
-        for index in cases::indexes(r, noise.capacity() < LIMIT - 1 && (equal || form == Form::Long)) {
+        for index in cases::indexes(r, noise.capacity(), equal || form == Form::Long) {
             let call = Call::SmallArena(index);
             judge.hold_to(gives_an_arena, &noise, &call);
-            if equal {
+            if equal && (index < 90 || noise.capacity() < LIMIT - 1) {
                 for a in cases::old_words(r, &noise, index) {
                     judge.hold_to(gives_an_arena, &a, &call);
                 }
@@ -239,7 +270,7 @@ fn gives_an_arena(
 ) -> Result<Outcome, Box<Mismatch>> {
     let given = compare(product, before, call, counts)?;
     if let (Call::SmallArena(_), [1, length, ..]) = (call, given.reply.words) {
-        let lent_on = cases::lent_on(given.arena.clone(), length as usize);
+        let lent_on = cases::lent_on(&given.arena, length as usize);
         let number = compare(product, &lent_on, &Call::Check, counts)?.reply.number;
         if number != 0 {
             let said = Err(format!("the check refuses what it gives with {number}"));
@@ -355,7 +386,8 @@ fn other_payloads(longest: usize, count: usize) -> Jobs {
     Jobs::new(arenas.len() + count, move |judge, r, number| match arenas.get(number) {
         Some(a) => cases::each_compression(a, |call| _ = judge.hold_to(ignores_payloads, a, &call)),
         None => {
-            let most = if number % 400 == 0 { LIMIT } else { r.pick(&[6, 20, 100, 1_000]) };
+            let large = many(r, number / 400, 8);
+            let most = if number % 400 == 0 { large } else { r.pick(&[6, 20, 100, 1_000]) };
             let a = if r.once_in(8) { random::damaged(r, most) } else { random::any_whole(r, most) };
             let links = if a.header.len() == 4 { a.links().min(a.capacity()) } else { 0 };
             for reset in [0, 1] {
@@ -429,9 +461,11 @@ fn demand_3(
 
 // Shapes and damage
 
-/// Around each of some capacities: columns of other lengths, headers of other lengths, other generations.
+/// Around each of some capacities: columns of other lengths, headers of other lengths, other generations; for those of a million
+/// and more all of this on an empty arena, and few of it if the stack fills the columns.
 fn shapes() -> Jobs {
-    let capacities = [0, 1, LIMIT - 1, LIMIT, LIMIT + 1, LIMIT + 2, 100_000];
+    let near = CUT as usize;
+    let capacities = [0, 1, near - 1, near, near + 1, 100_000, LIMIT - 1, LIMIT, LIMIT + 1, LIMIT + near];
     Jobs::new(4 * capacities.len(), move |judge, r, number| {
         let capacity = capacities[number / 4];
         let stack = [0, 1, capacity, capacity + 1][number % 4];
@@ -446,6 +480,9 @@ fn shapes() -> Jobs {
             judge.hold(&a, &Call::Check);
         };
         hold(&|_| {});
+        if capacity > 100_000 && (stack > 0 || capacity != LIMIT) {
+            return;
+        }
         for length in [capacity + 1, capacity.saturating_sub(1)] {
             hold(&|a| a.prev.resize(length, 0));
             hold(&|a| a.next.resize(length, 0));
@@ -465,8 +502,9 @@ fn shapes() -> Jobs {
 fn damage(arenas: usize) -> Jobs {
     Jobs::new(arenas, |judge, r, number| {
         let whole = if number % 20_000 == 10_000 {
-            let capacity = r.pick(&[LIMIT - 1, LIMIT, LIMIT + 1, 100_000]);
-            let style = Style::random(r, LIMIT);
+            let turn = number / 20_000;
+            let capacity = if turn % 20 == 9 { LIMIT + 1 } else { many(r, turn, 20) };
+            let style = Style::random(r, capacity);
             random::whole(r, capacity, capacity.min(LIMIT), style)
         } else {
             let most = if r.once_in(50) { 300 } else { r.pick(&[2, 5, 12, 40]) };
@@ -492,7 +530,7 @@ fn small_broken(form: Form) -> Jobs {
         if model::check(&a) == 0 {
             return;
         }
-        let above = a.stack() as u16 + 1;
+        let above = a.stack() as u32 + 1;
         let naming = a.link_slots().find(|&s| a.prev[s - 1] == above || a.next[s - 1] == above);
         let false_neighbours: Vec<usize> = match form {
             Form::Long if a.stack() < 4 => (1..=a.stack()).collect(),
@@ -508,12 +546,12 @@ fn small_broken(form: Form) -> Jobs {
     })
 }
 
-/// Every call on random arenas that rule 11 alone refuses, most of them small, a few of up to 65,535 slots.
+/// Every call on random arenas that rule 11 alone refuses, most of them small, a few of 65,535 slots and more.
 fn random_broken(arenas: usize) -> Jobs {
     Jobs::new(arenas, |judge, r, number| {
         let (stack, turn) = if number % 1_000 == 500 {
             let turn = number / 1_000;
-            ([LIMIT, LIMIT, LIMIT - 1, 40_000][turn / 4 % 4], turn)
+            (many(r, turn, 20), turn)
         } else {
             let most = if r.once_in(50) { 300 } else { r.pick(&[2, 5, 12, 40]) };
             (1 + r.below(most), number)
@@ -570,7 +608,8 @@ fn sequences(count: usize) -> Jobs {
 
 fn large_sequences(count: usize) -> Jobs {
     Jobs::new(count, |judge, r, _| {
-        let stack = r.pick(&[LIMIT, LIMIT, LIMIT - 1, 40_000, 2_048]);
+        let (near, more) = (CUT as usize, r.below(4_400));
+        let stack = r.pick(&[near + more, near + 1, near - 1, 40_000, 2_048]);
         let a = some_arena(r, stack);
         let a = random::with_dots(r, a);
         play(judge, r, a, 80, some_call);
@@ -582,7 +621,7 @@ fn large_sequences(count: usize) -> Jobs {
 fn grown(count: usize) -> Jobs {
     Jobs::new(count, |judge, r, number| {
         let (capacity, calls, most) = match number % 100 {
-            0 => (LIMIT, 24, 40_000),
+            0 => (70_000, 24, 40_000),
             20 | 40 | 60 | 80 => (2_048, 60, 1_000),
             _ => (r.pick(&[0, 1, 2, 3, 5, 8, 20, 100]), 300, 12),
         };
@@ -617,8 +656,11 @@ fn some_tidal_call(r: &mut Random, a: &Arena, kept: &[Walk], most: usize, tide: 
 }
 
 fn long_runs(count: usize) -> Jobs {
-    Jobs::new(count, |judge, r, _| {
-        let stack = r.pick(&[40, 500, 2_048, 20_000, LIMIT]);
+    Jobs::new(count, |judge, r, number| {
+        let stack = match number % 5 {
+            0 => many(r, number / 5, 12),
+            _ => r.pick(&[40, 500, 2_048, 20_000]),
+        };
         let a = some_arena(r, stack);
         let most = r.pick(&[1_000, 20_000, 100_000]);
         let mut commands = some_commands(r, &a, most);
@@ -666,41 +708,35 @@ fn run_is_its_single_calls(
     if run.arena != alone { differs("the single calls leave another arena".to_string()) } else { Ok(run) }
 }
 
-/// The single call that the words of a command stand for; none for another code, or if the command looks at a slot over
-/// 65,535.
+/// The single call that the words of a command stand for; none for another code.
 fn single(words: &[u32]) -> Option<Call> {
     let &[code, p_slot, p_generation, q_slot, q_generation, payload]: &[u32; COMMAND_WORDS] =
         words.try_into().ok()?;
-    let ptr = |slot, generation| Some(Ptr { slot: u16::try_from(slot).ok()?, generation });
-    let (p, q) = (ptr(p_slot, p_generation), ptr(q_slot, q_generation));
-    let ignored = Ptr { slot: 0, generation: 0 };
+    let p = Ptr { slot: p_slot, generation: p_generation };
+    let q = Ptr { slot: q_slot, generation: q_generation };
     Some(match code {
-        1 => Call::Connect(p?, q?),
-        2 => Call::BreakPrev(p?),
-        3 => Call::BreakNext(p?),
-        4 => Call::ExchangeNext(p?, q?),
-        5 => Call::Remove(p?),
-        kind if kind::ALL.contains(&kind) => {
-            let names = |place| kind::names(kind) > place;
-            let p = if names(0) { p? } else { p.unwrap_or(ignored) };
-            let q = if names(1) { q? } else { q.unwrap_or(ignored) };
-            Call::Insert(kind, p, q, payload)
-        }
+        1 => Call::Connect(p, q),
+        2 => Call::BreakPrev(p),
+        3 => Call::BreakNext(p),
+        4 => Call::ExchangeNext(p, q),
+        5 => Call::Remove(p),
+        kind if kind::ALL.contains(&kind) => Call::Insert(kind, p, q, payload),
         _ => return None,
     })
 }
 
-/// What is due of some chains of random arenas; every second arena is one chain. A few have up to 65,535 slots.
+/// What is due of some chains of random arenas; every second arena is one chain. A few have 65,535 slots and more.
 fn random_due(count: usize) -> Jobs {
     Jobs::new(count, |judge, r, number| {
-        let (large, most) = (number % 500 == 250, r.pick(&[3, 6, 20, 100]));
+        let (large, most) = (many(r, number / 500, 40), r.pick(&[3, 6, 20, 100]));
         let a = if number % 2 == 0 {
-            let (stack, free) = if large { (LIMIT, 0) } else { (1 + r.below(most), r.pick(&[0, 2])) };
+            let one = (1 + r.below(most), r.pick(&[0, 2]));
+            let (stack, free) = if number % 500 == 250 { (large, 0) } else { one };
             let closed = r.pick(&[0, 16]);
             let style = Style { free, longest: stack, even: true, scattered: true, closed };
             random::whole(r, stack, stack, style)
         } else {
-            random::any_whole(r, if number % 500 == 375 { LIMIT } else { most })
+            random::any_whole(r, if number % 500 == 375 { large } else { most })
         };
         let a = random::with_dots(r, a);
         for code in [DUE_COUNT, DUE_EVENTS, DUE_COUNT, DUE_EVENTS] {
@@ -712,12 +748,142 @@ fn random_due(count: usize) -> Jobs {
 
 fn random_compressions(count: usize) -> Jobs {
     Jobs::new(count, |judge, r, number| {
-        let most = if number % 100 == 0 { LIMIT } else { r.pick(&[6, 20, 100, 1_000]) };
+        let large = many(r, number / 100, 30);
+        let most = if number % 100 == 0 { large } else { r.pick(&[6, 20, 100, 1_000]) };
         let a = random::any_whole(r, most);
         let noise = r.word();
         for reset in [0, 1] {
             judge.hold(&a, &Call::CompressWith(reset, vec![noise; 4 * a.links() + 1]));
-            judge.hold_to(demand_3, &a, &Call::CompressCanonical(reset, vec![noise as u16; a.capacity()]));
+            judge.hold_to(demand_3, &a, &Call::CompressCanonical(reset, vec![noise; a.capacity()]));
+        }
+    })
+}
+
+// Slots above 65,536
+
+/// Every call on every arena up to a stack length that has one word raised.
+fn raised_words(longest: usize) -> Jobs {
+    let mut r = Random::new(longest as u64);
+    let small = (0..=longest).flat_map(cases::small_arenas);
+    let arenas: Vec<Arena> = small.map(|a| cases::dressed(&a, &mut r, 1, &[5], 5)).collect();
+    Jobs::new(arenas.len(), move |judge, r, number| {
+        for a in cases::with_raised_words(&arenas[number]) {
+            for call in each_call(r, &a) {
+                judge.hold(&a, &call);
+            }
+        }
+    })
+}
+
+/// The arena with the current generation for all of its links, so that a pointer with another slot is good if a link is there; and
+/// with dots for its payloads.
+fn alike(r: &mut Random, a: Arena) -> Arena {
+    let mut a = random::with_dots(r, a);
+    let (stack, current) = (a.stack(), a.current());
+    a.generation[..stack].iter_mut().filter(|word| **word != 0).for_each(|word| *word = current);
+    a
+}
+
+/// Every call on arenas of a little more than 65,536 slots, of 85,536, and of a little more than 131,072. In half of them the chains
+/// and the freelist go through slots one after the other that are the same if they are cut to 16 bits; some have no free slot, or
+/// two above 65,536; and in some the slots up to 65,536 are all free.
+fn far_slots(count: usize) -> Jobs {
+    Jobs::new(count, |judge, r, number| {
+        let (near, more, turn) = (CUT as usize, 3 + r.below(2_000), number + number / 4);
+        let stack = [near + 6, near + more, near + 20_000, 2 * near + more][number % 4];
+        let style = Style {
+            free: [0, 2, 1, 12][number % 4],
+            longest: [3, stack, 8, 40][turn % 4],
+            even: false,
+            scattered: turn % 2 == 1,
+            closed: 4,
+        };
+        let room = 1 + r.below(3);
+        let a = match number % 8 {
+            4 => {
+                let a = random::whole_in_order(r, stack + room, random::twins(stack), style);
+                let removed = |a: Arena, slot| model_outcome(&a, &Call::Remove(a.ptr(slot))).arena;
+                removed(removed(a, near + 1), near + 3)
+            }
+            6 => {
+                let small = random::whole(r, 43, 40, Style { free: 1, ..style });
+                random::behind_free_slots(r, &small)
+            }
+            _ => random::whole_in_order(r, stack + room, random::twins(stack), style),
+        };
+        let a = alike(r, a);
+        for refused in cases::mirrored() {
+            judge.hold(&refused, &Call::Check);
+        }
+        cases::each_far_call(r, &a, 3, |call| _ = judge.hold(&a, &call));
+        for reset in [0, 1] {
+            judge.hold(&a, &Call::CompressWith(reset, vec![9; 4 * a.links()]));
+            judge.hold_to(demand_3, &a, &Call::CompressCanonical(reset, vec![9; a.capacity()]));
+        }
+    })
+}
+
+/// So many times each of ten jobs on arenas of 1,048,576 slots.
+fn largest(times: usize) -> Jobs {
+    const CHAINS: Style = Style { free: 0, longest: 8, even: false, scattered: true, closed: 4 };
+    const ONE: Style = Style { longest: LIMIT, even: true, ..CHAINS };
+    let full = |r: &mut Random, style: Style| {
+        let a = random::whole(r, LIMIT, LIMIT, style);
+        alike(r, a)
+    };
+    Jobs::new(10 * times, move |judge, r, number| match number % 10 {
+        // One chain of all slots, open or closed.
+        0 => {
+            let closed = r.pick(&[0, 16]);
+            let a = full(r, Style { closed, ..ONE });
+            judge.hold(&a, &Call::DueEvents(a.ptr(LIMIT), 0, frame::DOTS, vec![9; LIMIT]));
+            judge.hold(&a, &Call::DueEvents(a.ptr(1), 0, frame::DOTS, vec![9; LIMIT - 1]));
+        }
+        // Grown from empty in one run, until there is no room: links of every kind, then one chain, which is drained.
+        kind @ (1 | 2) => {
+            let a = random::empty(r, LIMIT);
+            let mut commands = growth(r, &a, kind == 1);
+            commands.extend(mixed_commands(r, &a, 100, Tide::Rising, false));
+            let answers = vec![9; commands.len() / COMMAND_WORDS];
+            let Some(grown) = judge.hold(&a, &Call::Run(commands, answers)) else { return };
+            let a = alike(r, grown.arena);
+            if kind == 1 {
+                let call = call_of(INSERT, r, &a, &[]);
+                judge.hold(&a, &call);
+            } else {
+                judge.hold(&a, &Call::Drain(a.ptr(LIMIT / 2), vec![9; 5 * LIMIT]));
+            }
+        }
+        // Short chains without a free slot between them, and a long one with many.
+        3 => {
+            let a = full(r, CHAINS);
+            judge.hold(&a, &Call::CompressCanonical(0, vec![9; LIMIT]));
+        }
+        4 => {
+            let a = full(r, Style { free: 8, ..ONE });
+            judge.hold_to(demand_3, &a, &Call::CompressCanonical(1, vec![9; LIMIT]));
+        }
+        // Short chains with many free slots between them, for whose canonical compression the crate would take too long.
+        5 => {
+            let a = full(r, Style { free: 8, ..CHAINS });
+            judge.hold(&a, &Call::CompressWith(0, vec![9; 4 * LIMIT]));
+            judge.hold(&a, &Call::CompressCanonical(1, vec![9; LIMIT]));
+            judge.hold(&a, &Call::CanonicalizeFreelist);
+        }
+        6 => {
+            let near = r.pick(&[Near::Last, Near::LastAlone, Near::Anywhere]);
+            let a = random::with_broken_links(r, LIMIT, near);
+            for call in [Call::Check, Call::IncGeneration] {
+                judge.hold(&a, &call);
+            }
+        }
+        // Every call, a third of them in each job.
+        part => {
+            let a = full(r, Style { free: 1, ..CHAINS });
+            for code in calls_on_arenas().skip(part - 7).step_by(3) {
+                let call = call_of(code, r, &a, &[]);
+                judge.hold(&a, &call);
+            }
         }
     })
 }

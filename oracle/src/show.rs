@@ -89,13 +89,12 @@ pub fn place(broken: u32, side: u32) -> String {
 fn write_arena(f: &mut fmt::Formatter<'_>, a: &Arena) -> fmt::Result {
     let slots =
         [a.prev.len(), a.next.len(), a.generation.len(), a.payload.len()].into_iter().max().unwrap_or(0);
-    writeln!(f, "  {:>6} {:>6} {:>6} {:>11} {:>11}", "slot", "prev", "next", "generation", "payload")?;
+    writeln!(f, "  {:>7} {:>10} {:>10} {:>11} {:>11}", "slot", "prev", "next", "generation", "payload")?;
     for place in 0..slots.min(LINES) {
-        let narrow = |column: &[u16]| column.get(place).map_or("-".to_string(), u16::to_string);
-        let wide = |column: &[u32]| column.get(place).map_or("-".to_string(), u32::to_string);
-        let (prev, next) = (narrow(&a.prev), narrow(&a.next));
-        let (generation, payload) = (wide(&a.generation), wide(&a.payload));
-        writeln!(f, "  {:>6} {prev:>6} {next:>6} {generation:>11} {payload:>11}", place + 1)?;
+        let word = |column: &[u32]| column.get(place).map_or("-".to_string(), u32::to_string);
+        let (prev, next) = (word(&a.prev), word(&a.next));
+        let (generation, payload) = (word(&a.generation), word(&a.payload));
+        writeln!(f, "  {:>7} {prev:>10} {next:>10} {generation:>11} {payload:>11}", place + 1)?;
     }
     more(f, slots, "slots")?;
     let header: Vec<String> =
@@ -119,15 +118,14 @@ fn differences(model: &Outcome, side: &str, other: &Outcome) -> Vec<String> {
         }
     };
     let slot = |column: &'static str| move |place: usize| format!("{column} of slot {}", place + 1);
-    let wide = |column: &[u16]| column.iter().map(|&word| word.into()).collect::<Vec<u32>>();
     let (a, b) = (&model.arena, &other.arena);
     let answer = |o: &Outcome| vec![o.reply.number, o.reply.broken, o.reply.side];
     compare(&|place| ["number", "broken", "side"][place].to_string(), answer(model), answer(other));
     let fields = model.call.fields();
     let field = |place: usize| (*fields.get(place).unwrap_or(&"a further field")).to_string();
     compare(&field, model.reply.words.to_vec(), other.reply.words.to_vec());
-    compare(&slot("prev"), wide(&a.prev), wide(&b.prev));
-    compare(&slot("next"), wide(&a.next), wide(&b.next));
+    compare(&slot("prev"), a.prev.clone(), b.prev.clone());
+    compare(&slot("next"), a.next.clone(), b.next.clone());
     compare(&slot("generation"), a.generation.clone(), b.generation.clone());
     compare(&slot("payload"), a.payload.clone(), b.payload.clone());
     compare(&|place| header_name(place).to_string(), a.header.clone(), b.header.clone());

@@ -7,10 +7,13 @@ use crate::compare::{Counts, Mismatch, Product};
 use crate::header::{GENERATION, LINKS, ROOT, STACK};
 use crate::runner::{Failure, Judgement, judged};
 use crate::words::{COMPRESS_CANONICAL, COMPRESS_WITH, DRAIN, DUE_EVENTS, RUN, argument_name};
-use crate::{Arena, COMMAND_WORDS, Call};
+use crate::{Arena, COMMAND_WORDS, CUT, Call};
 
 /// How long a case is made smaller at most; one of a few hundred slots takes a small part of it.
 const PATIENCE: Duration = Duration::from_secs(20);
+
+/// With so many slots at most, each word of prev and next is made smaller by itself.
+const FEW: usize = 8;
 
 /// The smallest case that the steps come to.
 pub fn smallest(failure: Failure, product: Product) -> Box<Mismatch> {
@@ -59,6 +62,10 @@ impl<'a> Shrinker<'a> {
         self.zeros(|case| &mut case.arena.generation);
         self.zeros(|case| &mut case.arena.payload);
         self.zeros(|case| &mut case.lent);
+        if slots(&mut self.case) <= FEW {
+            self.smaller(|case| &mut case.arena.prev);
+            self.smaller(|case| &mut case.arena.next);
+        }
         self.smaller(|case| &mut case.arena.header);
         self.smaller(|case| &mut case.arguments);
         self.alike_generations();
@@ -189,16 +196,20 @@ fn cut<T>(words: &mut Vec<T>, from: usize, count: usize) {
 
 /// Takes slots out of the arena: neighbours close up, later slots are renamed, and the header counts what is left.
 fn without_slots(case: &mut Case, from: usize, count: usize) {
-    let old = case.arena.clone();
+    let (old, slots) = (case.arena.clone(), slots(case));
     let gone = |slot: usize| (from + 1..=from + count).contains(&slot);
-    let renamed = |slot: usize| if slot > from + count { slot - count } else { slot };
+    // A number past the columns is renamed with the slot that it is if it is cut to 16 bits.
+    let renamed = |slot: usize| {
+        let cut = if slot > slots { slot % CUT as usize } else { slot };
+        if cut > from + count { slot - count } else { slot }
+    };
     // What slot `own` points at once the others are gone: a list that ended in a slot that is gone ends in `own`.
-    let points_at = |column: &[u16], own: usize, mut slot: usize| {
+    let points_at = |column: &[u32], own: usize, mut slot: usize| {
         for _ in 0..=count {
             if !gone(slot) {
                 return renamed(slot);
             }
-            let after = column.get(slot - 1).map_or(0, |&word| word.into());
+            let after = column.get(slot - 1).map_or(0, |&word| word as usize);
             slot = if after == slot { own } else { after };
         }
         0
@@ -206,7 +217,7 @@ fn without_slots(case: &mut Case, from: usize, count: usize) {
     let a = &mut case.arena;
     for (column, old) in [(&mut a.prev, &old.prev), (&mut a.next, &old.next)] {
         for (place, word) in column.iter_mut().enumerate().filter(|(place, _)| !gone(place + 1)) {
-            *word = points_at(old, place + 1, (*word).into()) as u16;
+            *word = points_at(old, place + 1, *word as usize) as u32;
         }
         cut(column, from, count);
     }
@@ -216,7 +227,8 @@ fn without_slots(case: &mut Case, from: usize, count: usize) {
         cut(&mut case.lent, from, count);
     }
     if let Some(&[stack, links, root, _]) = old.header.first_chunk() {
-        let in_stack = (stack as usize).min(from + count).saturating_sub(from);
+        let length = if stack as usize > slots { stack % CUT } else { stack } as usize;
+        let in_stack = length.min(from + count).saturating_sub(from);
         let links_gone = old.generation.iter().skip(from).take(in_stack).filter(|&&word| word != 0).count();
         a.header[STACK] = stack - in_stack as u32;
         a.header[LINKS] = links.saturating_sub(links_gone as u32);
@@ -224,8 +236,7 @@ fn without_slots(case: &mut Case, from: usize, count: usize) {
     }
     for name in ["slot", "start", "position"] {
         for word in arguments_named(case, name) {
-            let (over, slot) = (*word & !0xffff, *word & 0xffff);
-            *word = over | renamed(slot as usize) as u32;
+            *word = renamed(*word as usize) as u32;
         }
     }
 }

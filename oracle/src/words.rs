@@ -130,7 +130,7 @@ impl Call {
 
     /// The words of its arguments; of a run the commands.
     pub fn arguments(&self) -> Vec<u32> {
-        let pointers = self.pointers().into_iter().flat_map(|p| [p.slot.into(), p.generation]);
+        let pointers = self.pointers().into_iter().flat_map(|p| [p.slot, p.generation]);
         match self {
             Self::WalkStep(walk) => vec![walk.start, walk.position, walk.direction, walk.left],
             Self::SetGeneration(word)
@@ -151,19 +151,19 @@ impl Call {
     /// The words of the slice that it lends: report, answers or where-from column.
     pub fn lent(&self) -> Vec<u32> {
         match self {
-            Self::Drain(_, words) | Self::Run(_, words) | Self::CompressWith(_, words) => words.clone(),
-            Self::CompressCanonical(_, slots) | Self::DueEvents(.., slots) => {
-                slots.iter().map(|&slot| slot.into()).collect()
-            }
+            Self::Drain(_, words)
+            | Self::Run(_, words)
+            | Self::CompressWith(_, words)
+            | Self::CompressCanonical(_, words)
+            | Self::DueEvents(.., words) => words.clone(),
             _ => vec![],
         }
     }
 
-    /// The call of a code with these words, or none if there are too few or one does not fit.
+    /// The call of a code with these words, or none if there are too few.
     pub fn of(code: usize, arguments: &[u32], lent: Vec<u32>) -> Option<Self> {
         let word = |k: usize| arguments.get(k).copied();
-        let ptr = |k| Some(Ptr { slot: word(k)?.try_into().ok()?, generation: word(k + 1)? });
-        let slots = |lent: Vec<u32>| lent.into_iter().map(u16::try_from).collect::<Result<_, _>>().ok();
+        let ptr = |k| Some(Ptr { slot: word(k)?, generation: word(k + 1)? });
         Some(match code {
             1 => Self::Check,
             2 => Self::GetLink(ptr(0)?),
@@ -187,12 +187,12 @@ impl Call {
             15 => Self::CanonicalizeFreelist,
             RUN => Self::Run(arguments.to_vec(), lent),
             17 => Self::CompressWith(word(0)?, lent),
-            COMPRESS_CANONICAL => Self::CompressCanonical(word(0)?, slots(lent)?),
+            COMPRESS_CANONICAL => Self::CompressCanonical(word(0)?, lent),
             INSERT => Self::Insert(word(0)?, ptr(1)?, ptr(3)?, word(5)?),
             LINE_OF_DOT => Self::LineOfDot(word(0)?),
             LINE_DOTS => Self::LineDots(word(0)?),
             DUE_COUNT => Self::DueCount(ptr(0)?, word(2)?, word(3)?),
-            DUE_EVENTS => Self::DueEvents(ptr(0)?, word(2)?, word(3)?, slots(lent)?),
+            DUE_EVENTS => Self::DueEvents(ptr(0)?, word(2)?, word(3)?, lent),
             SMALL_ARENA => Self::SmallArena(word(0)?),
             _ => return None,
         })

@@ -8,7 +8,7 @@ use crate::{COMMAND_WORDS, kind};
 
 /// The two words of a pointer, 0 and 0 for none.
 fn pointer_words(p: Option<Ptr>) -> [u32; 2] {
-    p.map_or([0, 0], |p| [p.slot.into(), p.generation])
+    p.map_or([0, 0], |p| [p.slot, p.generation])
 }
 
 /// The words of a link.
@@ -20,7 +20,7 @@ fn link_words(link: Link) -> Vec<u32> {
 
 /// The words of a link without its neighbours' generations.
 fn no_gen_words(link: LinkNoGen) -> Vec<u32> {
-    vec![link.prev.unwrap_or(0).into(), link.next.unwrap_or(0).into(), link.payload]
+    vec![link.prev.unwrap_or(0), link.next.unwrap_or(0), link.payload]
 }
 
 /// The reply that an answer stands for, where done it is a number with words.
@@ -28,7 +28,7 @@ fn reply(answer: Result<(u32, Vec<u32>), Refusal>) -> Reply {
     match answer {
         Ok((number, words)) => Reply::new(number, &words),
         Err(refusal) => {
-            let broken = refusal.slot().map_or(0, u32::from);
+            let broken = refusal.slot().unwrap_or(0);
             let side = refusal.side().map_or(0, |side| side as u32);
             Reply { broken, side, ..Reply::number(refusal.number()) }
         }
@@ -74,7 +74,9 @@ fn level_one(a: &Arena, call: &mut Call) -> Option<Reply> {
             let window = Window::of(*from, *to)?;
             reply(arena.due_events(*p, window, report).map(|due| {
                 assert!(due.events().all(|event| window.contains(event.dot)));
-                assert!(due.events().map(|event| event.ptr).eq(due.slots().iter().map(|&s| a.ptr(s.into()))));
+                assert!(
+                    due.events().map(|event| event.ptr).eq(due.slots().iter().map(|&s| a.ptr(s as usize)))
+                );
                 (0, vec![due.slots().len() as u32])
             }))
         }
@@ -159,8 +161,8 @@ fn run(arena: &mut chain_arena::ArenaMut<'_>, words: &[u32], answers: &mut [u32]
 fn command(words: &[u32; COMMAND_WORDS]) -> Option<chain_arena::Command> {
     use chain_arena::Command;
     let &[code, p, p_generation, q, q_generation, payload] = words;
-    let p = Ptr { slot: p.try_into().ok()?, generation: p_generation };
-    let q = Ptr { slot: q.try_into().ok()?, generation: q_generation };
+    let p = Ptr { slot: p, generation: p_generation };
+    let q = Ptr { slot: q, generation: q_generation };
     Some(match code {
         1 => Command::Connect(p, q),
         2 => Command::BreakPrev(p),
@@ -254,7 +256,7 @@ fn small_arenas(a: &mut Arena, call: &Call) -> Option<Reply> {
         None => (0, vec![0, 0]),
         Some(given) => {
             let length = given.prev.len();
-            assert_eq!(given, crate::cases::lent_on(a.clone(), length));
+            assert_eq!(given, crate::cases::lent_on(a, length));
             (0, vec![1, length as u32])
         }
     })))

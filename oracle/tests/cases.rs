@@ -13,8 +13,8 @@ use oracle::random::{self, Near, Random};
 use oracle::runner::Run;
 use oracle::sections::{Form, SECTIONS};
 use oracle::{
-    Archive, Arena, COMMAND_WORDS, Call, LIMIT, Ptr, Reading, Reply, demand3, exports, frame, guards, model,
-    side,
+    Archive, Arena, COMMAND_WORDS, CUT, Call, LIMIT, Ptr, Reading, Reply, demand3, exports, frame, guards,
+    model, side,
 };
 
 #[test]
@@ -77,7 +77,7 @@ fn the_small_arenas_are_asked_of_the_product() {
     assert_ne!(cases::given().as_ptr(), model::small_arenas().as_ptr());
 }
 
-/// The section of the call has every arena on columns of its own length and on longer ones, up to 65,535 words, 14 for each that
+/// The section of the call has every arena on columns of its own length and on longer ones, up to 1,048,576 words, 14 for each that
 /// has slots, and 1 for each column and for the header.
 #[test]
 fn the_cases_of_the_call_are_of_every_kind() {
@@ -105,7 +105,7 @@ fn the_cases_of_the_call_are_of_every_kind() {
         let too_short = some(&|at, _, number, _, _| at as usize == index && number == 14);
         assert_eq!(too_short, small.stack() > 0, "{index}");
     }
-    for capacity in [LIMIT - 1, LIMIT] {
+    for capacity in [CUT as usize - 1, CUT as usize, CUT as usize + 1, LIMIT - 1, LIMIT] {
         assert!(some(
             &|_, lengths, _, found, _| lengths == [capacity, capacity, capacity, capacity, 4] && found == 1
         ));
@@ -120,7 +120,7 @@ fn the_cases_of_the_call_are_of_every_kind() {
     for header in [0, 1, 2, 3, 5, 6] {
         assert!(some(&|_, lengths, number, _, _| lengths == [3, 3, 3, 3, header] && number == 1));
     }
-    for index in (90..=100).chain([255, 256, 65_535, 65_536, 65_537, 1 << 31, u32::MAX]) {
+    for index in (90..=100).chain([255, 256, CUT - 1, CUT, CUT + 1, 1 << 31, u32::MAX]) {
         assert!(some(&|at, lengths, number, found, _| at == index
             && lengths[0] < 3
             && (number, found) == (0, 0)));
@@ -195,7 +195,7 @@ fn the_calls_on_given_arenas_are_of_every_kind() {
     assert_eq!(asked.len(), 180);
     for room in [0, 1] {
         let of_room = asked.keys().filter(|a| a.capacity() == a.stack() + room);
-        let lent_on: HashSet<Arena> = of_room.map(|a| cases::lent_on(a.clone(), a.stack())).collect();
+        let lent_on: HashSet<Arena> = of_room.map(|a| cases::lent_on(a, a.stack())).collect();
         assert_eq!(lent_on, model::small_arenas().iter().cloned().collect());
     }
     for (a, asked) in &asked {
@@ -223,6 +223,29 @@ fn the_calls_on_given_arenas_are_of_every_kind() {
             assert_eq!(there, !insertion || a.stack() <= 2, "commands {first} and {second} on {a:?}");
         }
     }
+}
+
+/// The first sequence of the section of grown arenas takes one in runs from empty to more than 65,536 links, and takes links out of
+/// slots above 65,536 again.
+#[test]
+fn an_arena_is_grown_past_65_536_slots() {
+    let seen = Mutex::new([false; 3]);
+    let product = |a: &Arena, call: &Call| {
+        let after = model_outcome(a, call);
+        if let Call::Run(commands, answers) = &after.call {
+            let past = |a: &Arena| a.links() > CUT as usize;
+            let taken_out =
+                |(command, answer): (&[u32], &u32)| command[0] == 5 && command[1] > CUT && *answer == 0;
+            let commands = commands.chunks_exact(COMMAND_WORDS).zip(answers);
+            let now = [a.links() == 0, !past(a) && past(&after.arena), commands.into_iter().any(taken_out)];
+            seen.lock().unwrap().iter_mut().zip(now).for_each(|(seen, now)| *seen |= now);
+        }
+        Some(Ok(after))
+    };
+    let section = SECTIONS.iter().find(|section| section.name == "grown").expect("a section");
+    let run = Run { product: &product, seed: 1, threads: 1, most: 1 };
+    assert!(run.run(&(section.jobs)(Form::Short), |_| {}).1.is_none());
+    assert_eq!(seen.into_inner().unwrap(), [true; 3]);
 }
 
 #[test]
@@ -419,7 +442,7 @@ fn what_is_due_in_small_arenas_is_of_every_kind() {
         cases::each_due(&a, |call| {
             let after = model_outcome(&a, &call);
             let (Call::DueEvents(p, from, to, report), 0) = (&after.call, after.reply.number) else { return };
-            let (all, due) = (model::chain_of(&a, p.slot.into()).len(), after.reply.words[0] as usize);
+            let (all, due) = (model::chain_of(&a, p.slot as usize).len(), after.reply.words[0] as usize);
             let some_of_it = usize::from(0 < due && due < all);
             *if from <= to { &mut straight } else { &mut crossing } += some_of_it;
             not_rising += usize::from(!report[..due].is_sorted());

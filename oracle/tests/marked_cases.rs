@@ -4,7 +4,7 @@ use oracle::compare::{Counts, compare};
 use oracle::{Arena, Call, Ptr, Reply, Walk, guards, kind};
 
 /// An arena whose links all have generation 5, the current one: each slot's (prev, next), or (0, pointer) if it is free.
-fn arena(slots: &[(u16, u16)], free: &[usize], root: u32) -> Arena {
+fn arena(slots: &[(u32, u32)], free: &[usize], root: u32) -> Arena {
     let n = slots.len();
     let mut a = Arena::empty(n);
     for (place, &(prev, next)) in slots.iter().enumerate() {
@@ -19,7 +19,7 @@ fn arena(slots: &[(u16, u16)], free: &[usize], root: u32) -> Arena {
 }
 
 /// The pointer to a slot at generation 5.
-fn p(slot: u16) -> Ptr {
+fn p(slot: u32) -> Ptr {
     Ptr { slot, generation: 5 }
 }
 
@@ -277,7 +277,7 @@ fn clock(payload: [u32; 5]) -> Arena {
 }
 
 /// What a window reports of the chain of a slot, in a report of nines.
-fn events(a: &Arena, slot: u16, from: u32, to: u32) -> Vec<u16> {
+fn events(a: &Arena, slot: u32, from: u32, to: u32) -> Vec<u32> {
     let (replies, lent, left) = play(
         a.clone(),
         vec![Call::DueCount(p(slot), from, to), Call::DueEvents(p(slot), from, to, vec![9; 6])],

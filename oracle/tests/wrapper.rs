@@ -46,7 +46,7 @@ fn any_small_arena() {
         let mut r = Random::new(8_600_000 + number as u64);
         let a = random::noisy(&mut r, lengths);
         let equal = lengths[..4] == [a.capacity(); 4];
-        for index in cases::indexes(&mut r, equal && a.capacity() < LIMIT - 1) {
+        for index in cases::indexes(&mut r, a.capacity(), equal) {
             hold_call(&a, &Call::SmallArena(index), &mut counts);
         }
     }
@@ -152,7 +152,7 @@ fn pointers(a: &Arena) -> Vec<Ptr> {
         [own, own.wrapping_add(1), 0, a.current()]
     };
     let slots = 0..=a.stack() + 1;
-    slots.flat_map(|s| generations(s).map(|generation| Ptr { slot: s as u16, generation })).collect()
+    slots.flat_map(|s| generations(s).map(|generation| Ptr { slot: s as u32, generation })).collect()
 }
 
 /// The links of a chain as the proved calls give them, step by step.
@@ -299,8 +299,7 @@ fn a_broken_arena_has_no_view() {
 
 /// What can be read of an arena: its header, and of each slot of the stack the generation, and of a link all words.
 fn readable(a: &Arena) -> (Vec<u32>, Vec<[u32; 4]>) {
-    let words =
-        |s: usize| [a.prev[s - 1].into(), a.next[s - 1].into(), a.generation[s - 1], a.payload[s - 1]];
+    let words = |s: usize| [a.prev[s - 1], a.next[s - 1], a.generation[s - 1], a.payload[s - 1]];
     (a.header.clone(), (1..=a.stack()).map(|s| if a.is_link(s) { words(s) } else { [0; 4] }).collect())
 }
 
@@ -336,8 +335,8 @@ fn the_largest_arenas_are_read_in_linear_time() {
         let p = a.ptr(a.link_slots().next().unwrap());
         let chain: Vec<Ptr> = view.chain(p).unwrap().map(|(p, _)| p).collect();
         assert_eq!(view.chain_from_first(p).unwrap().count(), chain.len());
-        // It takes milliseconds; with a check for each link it would take a minute.
-        assert!(began.elapsed() < std::time::Duration::from_secs(3), "{style:?}: {:?}", began.elapsed());
-        assert!(a.as_arena().walk(p).unwrap().take(50).eq(chain.into_iter().take(50)));
+        // It takes a fraction of a second; with a check for each link it would take hours.
+        assert!(began.elapsed() < std::time::Duration::from_secs(10), "{style:?}: {:?}", began.elapsed());
+        assert!(a.as_arena().walk(p).unwrap().take(10).eq(chain.into_iter().take(10)));
     }
 }

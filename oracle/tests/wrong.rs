@@ -3,6 +3,7 @@
 
 use std::collections::BTreeSet;
 use std::panic::{AssertUnwindSafe, catch_unwind};
+use std::sync::Mutex;
 
 use oracle::compare::{Answer, Counts, Mismatch, Outcome, Product, compare, model_outcome};
 use oracle::header::{GENERATION, LINKS, ROOT, STACK};
@@ -12,7 +13,7 @@ use oracle::sections::{Form, SECTIONS};
 use oracle::side::{NEXT, PREV};
 use oracle::words::{CALLS_IN_ALL, SMALL_ARENA, calls_on_arenas};
 use oracle::{
-    Archive, Arena, COMMAND_WORDS, Call, LIMIT, Ptr, Reading, Reply, Walk, calls, cases, demand3, frame,
+    Archive, Arena, COMMAND_WORDS, CUT, Call, LIMIT, Ptr, Reading, Reply, Walk, calls, cases, demand3, frame,
     kind, model, payloads, shrink,
 };
 
@@ -41,8 +42,11 @@ fn one_word_off(right: &Outcome) -> Vec<Outcome> {
     }
     for k in 0..right.call.lent().len() {
         push(&|o| match &mut o.call {
-            Call::Drain(_, words) | Call::CompressWith(_, words) | Call::Run(_, words) => words[k] ^= 1,
-            Call::CompressCanonical(_, words) | Call::DueEvents(.., words) => words[k] ^= 1,
+            Call::Drain(_, words)
+            | Call::CompressWith(_, words)
+            | Call::Run(_, words)
+            | Call::CompressCanonical(_, words)
+            | Call::DueEvents(.., words) => words[k] ^= 1,
             _ => unreachable!("a call that lends nothing"),
         });
     }
@@ -102,7 +106,7 @@ const WRONG: &[(&str, &str, Wrong)] = &[
     ("check", "the neighbour named", |a, _, o| named(a, o, |places| {
         let (slot, side) = places[0];
         let column = if side == PREV { &a.prev } else { &a.next };
-        (column[slot as usize - 1].into(), side)
+        (column[slot as usize - 1], side)
     })),
     ("check", "slots counted from 0", |a, _, o| named(a, o, |places| (places[0].0 - 1, places[0].1))),
     ("check", "next looked at before prev", |a, _, o| named(a, o, |places| {
@@ -131,8 +135,13 @@ const WRONG: &[(&str, &str, Wrong)] = &[
     ("check", "a slot named with 4", |_, _, o| if o.reply.number == 4 { o.reply.broken = 1 }),
     ("check", "a side given where nothing is broken", |_, _, o| if o.reply.number == 0 { o.reply.side = 1 }),
     ("check", "a side given with 10", |_, _, o| if o.reply.number == 10 { o.reply.side = 2 }),
+    ("check", "a stack length cut to 16 bits", |a, call, o| read_as(a, call, o, |a| a.header[STACK] = cut(a.header[STACK]))),
+    ("check", "a link count cut to 16 bits", |a, call, o| read_as(a, call, o, |a| a.header[LINKS] = cut(a.header[LINKS]))),
+    ("check", "a root cut to 16 bits", |a, call, o| read_as(a, call, o, |a| a.header[ROOT] = cut(a.header[ROOT]))),
+    ("check", "prev words cut to 16 bits", |a, call, o| read_as(a, call, o, |a| a.prev.iter_mut().for_each(|word| *word = cut(*word)))),
+    ("check", "next words cut to 16 bits", |a, call, o| read_as(a, call, o, |a| a.next.iter_mut().for_each(|word| *word = cut(*word)))),
     ("get_link", "its slot named with 12", |_, call, o| if let (Call::GetLink(p), 12) = (call, o.reply.number) {
-        o.reply.broken = p.slot.into();
+        o.reply.broken = p.slot;
     }),
     ("get_link", "a side given with 12", |_, call, o| if let (Call::GetLink(_), 12) = (call, o.reply.number) {
         o.reply.side = 1;
@@ -157,6 +166,22 @@ const WRONG: &[(&str, &str, Wrong)] = &[
             }
         }
     }),
+    ("get_link", "a slot cut to 16 bits", |a, call, o| if let Call::GetLink(p) = call { instead(a, o, Call::GetLink(cut_ptr(*p))) }),
+    ("get_link_no_gen", "a slot cut to 16 bits", |a, call, o| if let Call::GetLinkNoGen(p) = call { instead(a, o, Call::GetLinkNoGen(cut_ptr(*p))) }),
+    ("are_neighbors", "slots cut to 16 bits", |a, call, o| if let Call::AreNeighbors(p, q) = call { instead(a, o, Call::AreNeighbors(cut_ptr(*p), cut_ptr(*q))) }),
+    ("walk_start", "a slot cut to 16 bits", |a, call, o| if let Call::WalkStart(p) = call { instead(a, o, Call::WalkStart(cut_ptr(*p))) }),
+    ("connect", "the second slot cut to 16 bits", |a, call, o| if let Call::Connect(p, q) = call { instead(a, o, Call::Connect(*p, cut_ptr(*q))) }),
+    ("connect", "the first slot cut to 16 bits", |a, call, o| if let Call::Connect(p, q) = call { instead(a, o, Call::Connect(cut_ptr(*p), *q)) }),
+    ("break_prev", "a slot cut to 16 bits", |a, call, o| if let Call::BreakPrev(p) = call { instead(a, o, Call::BreakPrev(cut_ptr(*p))) }),
+    ("break_next", "a slot cut to 16 bits", |a, call, o| if let Call::BreakNext(p) = call { instead(a, o, Call::BreakNext(cut_ptr(*p))) }),
+    ("exchange_next", "the first slot cut to 16 bits", |a, call, o| if let Call::ExchangeNext(p, q) = call { instead(a, o, Call::ExchangeNext(cut_ptr(*p), *q)) }),
+    ("exchange_next", "the second slot cut to 16 bits", |a, call, o| if let Call::ExchangeNext(p, q) = call { instead(a, o, Call::ExchangeNext(*p, cut_ptr(*q))) }),
+    ("remove", "a slot cut to 16 bits", |a, call, o| if let Call::Remove(p) = call { instead(a, o, Call::Remove(cut_ptr(*p))) }),
+    ("drain", "a slot cut to 16 bits", |a, call, o| if let Call::Drain(p, report) = call { instead(a, o, Call::Drain(cut_ptr(*p), report.clone())) }),
+    ("insert", "the first slot cut to 16 bits", |a, call, o| if let Call::Insert(kind, p, q, payload) = call { instead(a, o, Call::Insert(*kind, cut_ptr(*p), *q, *payload)) }),
+    ("insert", "the second slot cut to 16 bits", |a, call, o| if let Call::Insert(kind, p, q, payload) = call { instead(a, o, Call::Insert(*kind, *p, cut_ptr(*q), *payload)) }),
+    ("due_count", "a slot cut to 16 bits", |a, call, o| if let Call::DueCount(p, from, to) = call { instead(a, o, Call::DueCount(cut_ptr(*p), *from, *to)) }),
+    ("due_events", "a slot cut to 16 bits", |a, call, o| if let Call::DueEvents(p, from, to, report) = call { instead(a, o, Call::DueEvents(cut_ptr(*p), *from, *to, report.clone())) }),
     ("get_link_no_gen", "prev and next exchanged", |_, call, o| if matches!(call, Call::GetLinkNoGen(_)) {
         o.reply.words.swap(0, 1);
     }),
@@ -165,8 +190,8 @@ const WRONG: &[(&str, &str, Wrong)] = &[
         o.call = call.clone();
     }),
     ("are_neighbors", "the second generation not looked at", |a, call, o| if let Call::AreNeighbors(p, q) = call {
-        if model::check(a) == 0 && a.is_link(q.slot.into()) {
-            *o = model_outcome(a, &Call::AreNeighbors(*p, a.ptr(q.slot.into())));
+        if model::check(a) == 0 && a.is_link(q.slot as usize) {
+            *o = model_outcome(a, &Call::AreNeighbors(*p, a.ptr(q.slot as usize)));
             o.call = call.clone();
         }
     }),
@@ -183,7 +208,7 @@ const WRONG: &[(&str, &str, Wrong)] = &[
         o.reply.words[5] = walk.left.saturating_sub(1);
     }),
     ("walk_step", "a closed chain's start twice", |a, _, o| at_end(a, o, |a, walk, o| {
-        if u32::from(a.next[walk.position as usize - 1]) == walk.start {
+        if a.next[walk.position as usize - 1] == walk.start {
             o.reply.words[3] = walk.start;
         }
     })),
@@ -195,11 +220,10 @@ const WRONG: &[(&str, &str, Wrong)] = &[
     ("walk_step", "prev of a start that is no link", |a, _, o| at_end(a, o, |a, walk, o| {
         let start = (walk.start as usize).wrapping_sub(1);
         if a.next[walk.position as usize - 1] == 0 && start < a.prev.len() {
-            o.reply.words[3] = a.prev[start].into();
+            o.reply.words[3] = a.prev[start];
         }
     })),
     ("walk_step", "words cut to 16 bits", |a, call, o| if let Call::WalkStep(walk) = call {
-        let cut = |word: u32| word & 0xffff;
         let walk = Walk { start: cut(walk.start), position: cut(walk.position), ..*walk };
         o.reply = model_outcome(a, &Call::WalkStep(walk)).reply;
     }),
@@ -226,7 +250,7 @@ const WRONG: &[(&str, &str, Wrong)] = &[
     })),
     ("remove", "the freelist touched by a pop", |a, call, o| removed(call, o, |p, o| {
         if p.slot as usize == a.stack() {
-            o.arena.header[ROOT] = p.slot.into();
+            o.arena.header[ROOT] = p.slot;
         }
     })),
     ("remove", "the free slots below popped too", |a, call, o| removed(call, o, |p, o| {
@@ -241,7 +265,7 @@ const WRONG: &[(&str, &str, Wrong)] = &[
         if let Call::Drain(_, report) = &mut o.call {
             for item in report.chunks_exact_mut(5).take(items) {
                 let place = item[0] as usize - 1;
-                (item[2], item[3]) = (a.prev[place].into(), a.next[place].into());
+                (item[2], item[3]) = (a.prev[place], a.next[place]);
             }
         }
     }),
@@ -270,7 +294,7 @@ const WRONG: &[(&str, &str, Wrong)] = &[
     ("canonicalize_freelist", "falling order", |a, call, o| if matches!(call, Call::CanonicalizeFreelist) && o.reply.number == 0 {
         let free: Vec<usize> = (1..=o.arena.stack()).filter(|&s| a.generation[s - 1] == 0).collect();
         for (k, &s) in free.iter().enumerate() {
-            o.arena.next[s - 1] = free[k.saturating_sub(1)] as u16;
+            o.arena.next[s - 1] = free[k.saturating_sub(1)] as u32;
         }
         o.arena.header[ROOT] = free.last().map_or(0, |&s| s as u32);
     }),
@@ -278,13 +302,10 @@ const WRONG: &[(&str, &str, Wrong)] = &[
         if k == 0 { model::apply(a, command) } else { 0 }
     })),
     ("run", "slots cut to 16 bits", |a, call, o| run_as(a, call, o, |a, _, command| {
-        let mut cut = command.to_vec();
-        cut[1] &= 0xffff;
-        cut[3] &= 0xffff;
-        model::apply(a, &cut)
+        model::apply(a, &cut_command(command))
     })),
     ("run", "12 before 16", |a, call, o| run_as(a, call, o, |a, _, command| {
-        let stale = u16::try_from(command[1]).map_or(true, |s| !a.is_link(s.into()));
+        let stale = !a.is_link(command[1] as usize);
         if stale && !(1..=kind::BRIDGE_INX).contains(&command[0]) { 12 } else { model::apply(a, command) }
     })),
     ("run", "14 before 16", |_, call, o| if let (Call::Run(words, answers), 16) = (call, o.reply.number) {
@@ -308,15 +329,10 @@ const WRONG: &[(&str, &str, Wrong)] = &[
         answer => answer,
     })),
     ("run", "a kind by slot that takes slots cut to 16 bits", |a, call, o| run_as(a, call, o, |a, _, command| {
-        let mut cut = command.to_vec();
-        if kind::by_slot(command[0]) {
-            cut[1] &= 0xffff;
-            cut[3] &= 0xffff;
-        }
-        model::apply(a, &cut)
+        if kind::by_slot(command[0]) { model::apply(a, &cut_command(command)) } else { model::apply(a, command) }
     })),
     ("run", "an ignored slot over 65,535 refused", |a, call, o| run_as(a, call, o, |a, _, command| {
-        let ignored = [1, 3].into_iter().skip(kind::names(command[0])).any(|word| command[word] > 65_535);
+        let ignored = [1, 3].into_iter().skip(kind::names(command[0])).any(|word| command[word] >= CUT);
         if ignored && kind::ALL.contains(&command[0]) { 17 } else { model::apply(a, command) }
     })),
     ("run", "the first command's payload for all", |a, call, o| if let Call::Run(words, _) = call {
@@ -382,8 +398,8 @@ const WRONG: &[(&str, &str, Wrong)] = &[
         }
     }),
     ("insert", "the second generation not looked at", |a, call, o| if let Call::Insert(kind, p, q, payload) = call {
-        if kind::names(*kind) == 2 && model::check(a) == 0 && a.is_link(q.slot.into()) {
-            instead(a, o, Call::Insert(*kind, *p, a.ptr(q.slot.into()), *payload));
+        if kind::names(*kind) == 2 && model::check(a) == 0 && a.is_link(q.slot as usize) {
+            instead(a, o, Call::Insert(*kind, *p, a.ptr(q.slot as usize), *payload));
         }
     }),
     ("insert", "ChainEnd behind a link that has a next", |a, call, o| another_kind(a, call, o, |kind| match kind {
@@ -431,7 +447,7 @@ const WRONG: &[(&str, &str, Wrong)] = &[
     })),
     ("insert", "the old next read after the new one is written", |_, call, o| inserted(call, o, |kind, _, _, o| {
         if matches!(kind, kind::NEXT_TO | kind::NEXT_TO_INX) {
-            let new = o.reply.words[0] as u16;
+            let new = o.reply.words[0];
             o.arena.next[new as usize - 1] = new;
         }
     })),
@@ -563,8 +579,8 @@ const WRONG: &[(&str, &str, Wrong)] = &[
         }
     }),
     ("due_count", "a stale pointer's slot walked from", |a, call, o| if let (Call::DueCount(p, from, to), 12) = (call, o.reply.number) {
-        if a.is_link(p.slot.into()) {
-            instead(a, o, Call::DueCount(a.ptr(p.slot.into()), *from, *to));
+        if a.is_link(p.slot as usize) {
+            instead(a, o, Call::DueCount(a.ptr(p.slot as usize), *from, *to));
         }
     }),
     ("due_count", "a window up to the frame's end refused", |a, call, o| if let Call::DueCount(_, _, 89_342) = call {
@@ -583,7 +599,7 @@ const WRONG: &[(&str, &str, Wrong)] = &[
     }),
     ("due_count", "a count with 19", |_, call, o| if let (Call::DueCount(..), 19) = (call, o.reply.number) { o.reply.words[0] = 1 }),
     ("due_count", "a slot named with 19", |_, call, o| if let (Call::DueCount(p, ..), 19) = (call, o.reply.number) {
-        o.reply.broken = p.slot.into();
+        o.reply.broken = p.slot;
     }),
     ("due_events", "slot order", |a, call, o| reported(a, call, o, |_, events| events.sort_unstable())),
     ("due_events", "the order of their dots", |a, call, o| reported(a, call, o, |_, events| events.sort_by_key(|&s| a.payload[s - 1]))),
@@ -613,7 +629,7 @@ const WRONG: &[(&str, &str, Wrong)] = &[
         report[..count].iter_mut().for_each(|slot| *slot -= 1);
     })),
     ("due_events", "payloads for slots", |a, call, o| rewritten(call, o, |report, count| {
-        report[..count].iter_mut().for_each(|slot| *slot = a.payload[*slot as usize - 1] as u16);
+        report[..count].iter_mut().for_each(|slot| *slot = a.payload[*slot as usize - 1]);
     })),
     ("due_events", "the first event not written", |_, call, o| if let Call::DueEvents(.., old) = call {
         rewritten(call, o, |report, count| if count > 0 { report[0] = old[0] });
@@ -626,17 +642,17 @@ const WRONG: &[(&str, &str, Wrong)] = &[
     ("due_events", "the rest of the report zeroed", |_, call, o| rewritten(call, o, |report, count| report[count..].fill(0))),
     ("due_events", "every link of the chain written, then the events", |a, call, o| if let Call::DueEvents(p, ..) = call {
         rewritten(call, o, |report, count| {
-            let chain = model::chain_of(a, p.slot.into());
+            let chain = model::chain_of(a, p.slot as usize);
             for (word, &s) in report.iter_mut().zip(&chain).skip(count) {
-                *word = s as u16;
+                *word = s as u32;
             }
         });
     }),
     ("due_events", "the chain's length for the count", |a, call, o| if let (Call::DueEvents(p, ..), 0) = (call, o.reply.number) {
-        o.reply.words[0] = model::chain_of(a, p.slot.into()).len() as u32;
+        o.reply.words[0] = model::chain_of(a, p.slot as usize).len() as u32;
     }),
     ("due_events", "an exact report refused", |a, call, o| if let (Call::DueEvents(p, .., report), 0) = (call, o.reply.number) {
-        if report.len() == model::chain_of(a, p.slot.into()).len() {
+        if report.len() == model::chain_of(a, p.slot as usize).len() {
             refuse(a, call, o, 14);
         }
     }),
@@ -654,7 +670,7 @@ const WRONG: &[(&str, &str, Wrong)] = &[
         }
     }),
     ("due_events", "14 before 19", |a, call, o| if let (Call::DueEvents(p, .., report), 19) = (call, o.reply.number) {
-        if report.len() < model::chain_of(a, p.slot.into()).len() {
+        if report.len() < model::chain_of(a, p.slot as usize).len() {
             o.reply.number = 14;
         }
     }),
@@ -774,6 +790,32 @@ const WRONG: &[(&str, &str, Wrong)] = &[
     })),
 ];
 
+/// The lower 16 bits of a word.
+fn cut(word: u32) -> u32 {
+    word % CUT
+}
+
+/// The pointer with its slot cut to 16 bits.
+fn cut_ptr(p: Ptr) -> Ptr {
+    Ptr { slot: cut(p.slot), ..p }
+}
+
+/// The command with its slots cut to 16 bits.
+fn cut_command(command: &[u32]) -> Vec<u32> {
+    let mut command = command.to_vec();
+    (command[1], command[3]) = (cut(command[1]), cut(command[3]));
+    command
+}
+
+/// Answers as if other words stood in an arena that is refused.
+fn read_as(a: &Arena, call: &Call, o: &mut Outcome, change: impl Fn(&mut Arena)) {
+    if (3..=11).contains(&o.reply.number) {
+        let mut other = a.clone();
+        change(&mut other);
+        o.reply = model_outcome(&other, call).reply;
+    }
+}
+
 /// The arena of another index.
 fn another_index(a: &Arena, call: &Call, o: &mut Outcome, other: impl Fn(u32) -> u32) {
     if let Call::SmallArena(index) = call {
@@ -856,7 +898,7 @@ fn counted(
 ) {
     if let (Call::DueCount(p, from, to), 0) = (call, o.reply.number) {
         let due = |s: usize| model::is_due(a.payload[s - 1], *from, *to);
-        o.reply.words[0] = count(&model::chain_of(a, p.slot.into()), &due) as u32;
+        o.reply.words[0] = count(&model::chain_of(a, p.slot as usize), &due) as u32;
     }
 }
 
@@ -864,18 +906,18 @@ fn counted(
 fn reported(a: &Arena, call: &Call, o: &mut Outcome, change: impl Fn(&[usize], &mut Vec<usize>)) {
     if let (Call::DueEvents(p, .., old), Call::DueEvents(.., report), 0) = (call, &mut o.call, o.reply.number)
     {
-        let mut events = report[..o.reply.words[0] as usize].iter().map(|&slot| slot.into()).collect();
-        change(&model::chain_of(a, p.slot.into()), &mut events);
+        let mut events = report[..o.reply.words[0] as usize].iter().map(|&slot| slot as usize).collect();
+        change(&model::chain_of(a, p.slot as usize), &mut events);
         report.copy_from_slice(old);
         for (word, &s) in report.iter_mut().zip(&events) {
-            *word = s as u16;
+            *word = s as u32;
         }
         o.reply.words[0] = events.len() as u32;
     }
 }
 
 /// Changes the report of events: the report, the number of events.
-fn rewritten(call: &Call, o: &mut Outcome, change: impl Fn(&mut [u16], usize)) {
+fn rewritten(call: &Call, o: &mut Outcome, change: impl Fn(&mut [u32], usize)) {
     if let (Call::DueEvents(..), Call::DueEvents(.., report), 0) = (call, &mut o.call, o.reply.number) {
         change(report, o.reply.words[0] as usize);
     }
@@ -918,7 +960,7 @@ fn behind_the_stack(a: &Arena, o: &mut Outcome) {
     let (taken, new) = (o.reply.words[0] as usize, a.stack() + 1);
     let b = &mut o.arena;
     for word in b.prev.iter_mut().chain(&mut b.next).filter(|word| **word as usize == taken) {
-        *word = new as u16;
+        *word = new as u32;
     }
     b.prev[new - 1] = b.prev[taken - 1];
     b.next[new - 1] = b.next[taken - 1];
@@ -1024,7 +1066,7 @@ fn compressed(o: &Outcome) -> bool {
 }
 
 /// Changes the where-from column of a compression: the column, the old column, the link count, the old stack length.
-fn where_from(a: &Arena, call: &Call, o: &mut Outcome, change: impl Fn(&mut [u16], &[u16], usize, usize)) {
+fn where_from(a: &Arena, call: &Call, o: &mut Outcome, change: impl Fn(&mut [u32], &[u32], usize, usize)) {
     if compressed(o)
         && let (Call::CompressCanonical(_, places), Call::CompressCanonical(_, old)) = (&mut o.call, call)
     {
@@ -1039,13 +1081,13 @@ fn laid_out(a: &Arena, o: &mut Outcome, order: impl Fn(&Arena) -> Vec<usize>) {
     }
     let order = order(a);
     let renamed =
-        |old: u16| order.iter().position(|&s| s == old as usize).map_or(0, |place| place as u16 + 1);
+        |old: u32| order.iter().position(|&s| s == old as usize).map_or(0, |place| place as u32 + 1);
     for (place, &s) in order.iter().enumerate() {
         o.arena.prev[place] = renamed(a.prev[s - 1]);
         o.arena.next[place] = renamed(a.next[s - 1]);
         o.arena.payload[place] = a.payload[s - 1];
         if let Call::CompressCanonical(_, places) = &mut o.call {
-            places[place] = s as u16;
+            places[place] = s as u32;
         }
     }
 }
@@ -1094,7 +1136,7 @@ fn found_out(sections: &[&str], most: usize, program: Wrong) -> Option<Box<Misma
 /// is found on damaged arenas alone.
 fn sections_of(call: &str) -> &'static [&'static str] {
     match call {
-        "check" => &["tuples", "small_broken"],
+        "check" => &["tuples", "small_broken", "raised_words"],
         "get_link" | "get_link_no_gen" | "are_neighbors" | "walk_start" => &["reading"],
         "walk_step" => &["steps", "damage"],
         "run" => &["insertion_pairs", "edits"],
@@ -1146,23 +1188,24 @@ const WRONG_OF_FEW_WORDS: &[(&str, &str, Wrong)] = &[
         }
     })),
     ("insert", "generations compared by their lower halves", |a, call, o| if let (Call::Insert(kind, p, q, payload), 17) = (call, o.reply.number) {
-        let near = |p: Ptr| match a.is_link(p.slot.into()).then(|| a.ptr(p.slot.into())) {
+        let near = |p: Ptr| match a.is_link(p.slot as usize).then(|| a.ptr(p.slot as usize)) {
             Some(there) if (there.generation ^ p.generation) & 0xffff == 0 => there,
             _ => p,
         };
         instead(a, o, Call::Insert(*kind, near(*p), near(*q), *payload));
     }),
     ("insert", "the largest slot taken for the first", |a, call, o| if let (Call::Insert(kind, p, q, payload), 17) = (call, o.reply.number) {
-        if p.slot == u16::MAX && a.is_link(1) {
+        if p.slot == u32::MAX && a.is_link(1) {
             instead(a, o, Call::Insert(*kind, a.ptr(1), *q, *payload));
         }
     }),
-    ("insert", "a slot of a command cut to 17 bits", |a, call, o| run_as(a, call, o, |a, _, command| {
-        let mut cut = command.to_vec();
-        cut[1] &= 0x1_ffff;
-        cut[3] &= 0x1_ffff;
-        model::apply(a, &cut)
-    })),
+    ("insert", "a slot of a command cut to 17 bits", |a, call, o| run_as(a, call, o, |a, _, command| cut_to(a, command, 17))),
+    ("insert", "a slot of a command cut to 20 bits", |a, call, o| run_as(a, call, o, |a, _, command| cut_to(a, command, 20))),
+    ("insert", "a slot of a command cut to 21 bits", |a, call, o| run_as(a, call, o, |a, _, command| cut_to(a, command, 21))),
+    ("insert", "slots cut to 20 bits", |a, call, o| if let Call::Insert(kind, p, q, payload) = call {
+        let [p, q] = [p, q].map(|p| Ptr { slot: p.slot % (1 << 20), ..*p });
+        instead(a, o, Call::Insert(*kind, p, q, *payload));
+    }),
     ("insert", "a payload of 0 not written in a run", |a, call, o| run_as(a, call, o, |a, _, command| {
         let place = model::slot_to_take(a) - 1;
         let old = a.payload.get(place).copied().unwrap_or(0);
@@ -1173,6 +1216,13 @@ const WRONG_OF_FEW_WORDS: &[(&str, &str, Wrong)] = &[
         answer
     })),
 ];
+
+/// Applies a command with its slots cut to so many bits.
+fn cut_to(a: &mut Arena, command: &[u32], bits: u32) -> u32 {
+    let mut command = command.to_vec();
+    (command[1], command[3]) = (command[1] % (1 << bits), command[3] % (1 << bits));
+    model::apply(a, &command)
+}
 
 #[test]
 fn a_program_wrong_about_few_words_is_found_out() {
@@ -1194,7 +1244,7 @@ fn random_sections_of(call: &str) -> &'static [&'static str] {
 #[test]
 fn what_random_cases_find_is_shown_on_a_small_one() {
     for (call, what, program) in WRONG {
-        let shown = found_out(random_sections_of(call), 400, *program);
+        let shown = found_out(random_sections_of(call), 2_000, *program);
         let shown = shown.unwrap_or_else(|| panic!("{call}: {what}: passes for right"));
         let small = shown.before.capacity() <= 4 && shown.call.arguments().len() <= 2 * COMMAND_WORDS;
         assert!(small, "{call}: {what}: {shown}");
@@ -1393,7 +1443,7 @@ const WRONG_LISTS: &[(&str, Listed)] = &[
     ("no payloads", |list| each_link(list, |a, place| a.payload[place] = 0)),
     ("a free slot with a payload in one", |list| list[3].payload[0] = 1),
     ("free slots with payloads", |list| each_free(list, |a, place| a.payload[place] = place as u32 + 1)),
-    ("free slots with a prev", |list| each_free(list, |a, place| a.prev[place] = place as u16 + 1)),
+    ("free slots with a prev", |list| each_free(list, |a, place| a.prev[place] = place as u32 + 1)),
     ("free slots with the current generation", |list| each_free(list, |a, place| a.generation[place] = 2)),
     ("a freelist that ends with 0", |list| each_free(list, |a, place| if a.next[place] as usize == place + 1 { a.next[place] = 0 })),
     ("links of generation 3", |list| each_link(list, |a, place| a.generation[place] = 3)),
@@ -1422,9 +1472,9 @@ const WRONG_LISTS: &[(&str, Listed)] = &[
         slots.reverse();
         (length, root, slots)
     })),
-    ("next before the generation", |list| by_slots(list, |(generation, prev, next)| [next.into(), generation, prev.into()])),
-    ("next before prev", |list| by_slots(list, |(generation, prev, next)| [generation, next.into(), prev.into()])),
-    ("links before free slots", |list| by_slots(list, |(generation, prev, next)| [2 - generation, prev.into(), next.into()])),
+    ("next before the generation", |list| by_slots(list, |[generation, prev, next]| [next, generation, prev])),
+    ("next before prev", |list| by_slots(list, |[generation, prev, next]| [generation, next, prev])),
+    ("links before free slots", |list| by_slots(list, |[generation, prev, next]| [2 - generation, prev, next])),
     ("column by column", |list| list.sort_by_key(|a| {
         (a.stack(), a.root(), a.generation.clone(), a.prev.clone(), a.next.clone())
     })),
@@ -1456,7 +1506,7 @@ fn each_free(list: &mut [Arena], change: impl Fn(&mut Arena, usize)) {
 }
 
 /// Puts arenas in order by stack length and root, then slot by slot by other keys.
-fn by_slots(list: &mut [Arena], key: impl Fn((u32, u16, u16)) -> [u32; 3]) {
+fn by_slots(list: &mut [Arena], key: impl Fn([u32; 3]) -> [u32; 3]) {
     list.sort_by_key(|a| {
         let (length, root, slots) = cases::place(a);
         (length, root, slots.into_iter().map(&key).collect::<Vec<[u32; 3]>>())
@@ -1482,7 +1532,7 @@ fn a_wrong_list_of_small_arenas_is_found_out() {
     let right = model::small_arenas().to_vec();
     assert_eq!(cases::given_by(&giving(right.clone())).expect("the right list"), right);
     assert!(cases::are_enumerated(&right));
-    assert!(failure(&["small_calls"], usize::MAX, 2, &giving(right.clone())).is_none());
+    assert!(failure(&["small_calls"], 1_300, 2, &giving(right.clone())).is_none());
     for (what, change) in WRONG_LISTS {
         let mut list = right.clone();
         change(&mut list);
@@ -1518,7 +1568,7 @@ const WRONG_ABOUT_OLD_WORDS: &[(&str, Wrong)] = &[
         }
     })),
     ("the arena behind the one that is there", |a, call, o| if let Call::SmallArena(index @ 1..89) = call {
-        let there = model::small_arenas().iter().position(|small| cases::lent_on(a.clone(), small.stack()) == *small);
+        let there = model::small_arenas().iter().position(|small| cases::lent_on(a, small.stack()) == *small);
         if there == Some(*index as usize - 1) {
             instead(a, o, Call::SmallArena(index + 1));
         }
@@ -1577,19 +1627,21 @@ fn a_small_arena_that_goes_by_old_words_is_found_out() {
     }
 }
 
-/// Wrong programs that need columns of some hundred words or of about 65,535.
+/// Wrong programs that need columns of some hundred words, of about 65,536 or of about 1,048,576.
 #[rustfmt::skip]
 const WRONG_ABOUT_LARGE_COLUMNS: &[(&str, Wrong)] = &[
     ("256 to 59,999 words refused", |a, call, o| if (256..60_000).contains(&a.capacity()) { refuse(a, call, o, 1) }),
     ("more than 4,095 words and fewer than 60,000 taken for the end", |a, call, o| if (4_096..60_000).contains(&a.capacity()) {
         of_capacity(a, call, o, a.capacity(), 0);
     }),
-    ("65,536 words taken", |a, call, o| of_capacity(a, call, o, LIMIT + 1, 0)),
-    ("65,537 words taken", |a, call, o| of_capacity(a, call, o, LIMIT + 2, 0)),
-    ("65,535 words refused", |a, call, o| of_capacity(a, call, o, LIMIT, 1)),
-    ("65,534 words refused", |a, call, o| of_capacity(a, call, o, LIMIT - 1, 1)),
-    ("14 before 1 for 65,536 words", |a, call, o| of_capacity(a, call, o, LIMIT + 1, 14)),
-    ("lengths of 16 bits", |a, call, o| by_lengths(a, call, o, |lengths| lengths.iter_mut().for_each(|length| *length &= 0xffff))),
+    ("more than 65,535 words refused", |a, call, o| if a.capacity() >= CUT as usize { refuse(a, call, o, 1) }),
+    ("65,536 words taken for none", |a, call, o| of_capacity(a, call, o, CUT as usize, 14)),
+    ("1,048,577 words taken", |a, call, o| of_capacity(a, call, o, LIMIT + 1, 0)),
+    ("1,048,576 words refused", |a, call, o| of_capacity(a, call, o, LIMIT, 1)),
+    ("1,048,575 words refused", |a, call, o| of_capacity(a, call, o, LIMIT - 1, 1)),
+    ("14 before 1 for 1,048,577 words", |a, call, o| of_capacity(a, call, o, LIMIT + 1, 14)),
+    ("lengths of 16 bits", |a, call, o| by_lengths(a, call, o, |lengths| lengths.iter_mut().for_each(|length| *length %= CUT as usize))),
+    ("lengths of 20 bits", |a, call, o| by_lengths(a, call, o, |lengths| lengths.iter_mut().for_each(|length| *length %= LIMIT))),
 ];
 
 /// Answers another number where columns of a length are lent, and 0 and 0 beside it.
@@ -1605,10 +1657,76 @@ fn of_capacity(a: &Arena, call: &Call, o: &mut Outcome, capacity: usize, number:
 
 #[test]
 fn a_program_wrong_about_large_columns_is_found_out() {
-    for (what, program) in WRONG_ABOUT_LARGE_COLUMNS {
-        let found = failure(&["small_calls"], usize::MAX, 2, &side(*program));
-        assert!(found.is_some(), "{what}: passes for right");
-    }
+    found_in("small_calls", usize::MAX, planted(WRONG_ABOUT_LARGE_COLUMNS));
+}
+
+/// A wrong program that is put together, with what is wrong about it.
+type Planted = (String, Box<dyn Fn(&Arena, &Call, &mut Outcome) + Send>);
+
+/// The programs of a list.
+fn planted(programs: &[(&str, Wrong)]) -> Vec<Planted> {
+    programs.iter().map(|&(what, program)| (what.to_string(), Box::new(program) as _)).collect()
+}
+
+/// Holds to it that so many jobs of a section find each of the programs out: the section has a case of which the program leaves
+/// something else than the model. All programs are tried in one run, which ends when the last is found.
+fn found_in(section: &str, most: usize, programs: Vec<Planted>) {
+    let unfound = Mutex::new(programs);
+    let product = |a: &Arena, call: &Call| {
+        let (right, mut unfound) = (model_outcome(a, call), unfound.lock().unwrap());
+        unfound.retain(|(_, program)| {
+            let mut outcome = right.clone();
+            program(a, call, &mut outcome);
+            outcome == right
+        });
+        Some(if unfound.is_empty() { Err("all are found".to_string()) } else { Ok(right) })
+    };
+    let ended = failure(&[section], most, 2, &product);
+    let unfound: Vec<String> = unfound.into_inner().unwrap().into_iter().map(|(what, _)| what).collect();
+    assert!(unfound.is_empty(), "{section}: these pass for right: {unfound:?}");
+    assert_eq!(ended.expect("an end").mismatch.other.err().as_deref(), Some("all are found"));
+}
+
+/// Something that is so of an arena.
+type Condition = fn(&Arena) -> bool;
+
+/// Wrong limits: numbers with which a call on an arena is refused that passes the check, if this is so.
+#[rustfmt::skip]
+const WRONG_LIMITS: &[(&str, u32, Condition)] = &[
+    ("65,535 slots at most", 1, |a| a.capacity() >= CUT as usize),
+    ("65,536 slots at most", 1, |a| a.capacity() > CUT as usize),
+    ("1,048,575 slots at most", 1, |a| a.capacity() == LIMIT),
+    ("a capacity of 16 bits", 3, |a| a.capacity() % (CUT as usize) < a.stack()),
+    ("a capacity of 20 bits", 3, |a| a.capacity() % LIMIT < a.stack()),
+    ("a stack length compared with 65,535", 3, |a| a.stack() >= CUT as usize),
+    ("a link count compared with 65,535", 3, |a| a.links() >= CUT as usize),
+];
+
+/// Limits that are too large.
+const NO_LIMITS: &[(&str, Wrong)] = &[
+    ("1,048,577 slots at most", |a, _, o| {
+        if o.reply.number == 1 && a.capacity() == LIMIT + 1 {
+            o.reply.number = 3;
+        }
+    }),
+    ("no limit", |a, _, o| {
+        if o.reply.number == 1 && a.capacity() > LIMIT + 1 {
+            o.reply.number = 0;
+        }
+    }),
+];
+
+#[test]
+fn a_wrong_limit_is_found_out() {
+    let refused = WRONG_LIMITS.iter().map(|&(what, number, holds)| -> Planted {
+        let program = move |a: &Arena, call: &Call, o: &mut Outcome| {
+            if call.takes_arena() && !(1..=11).contains(&o.reply.number) && holds(a) {
+                refuse(a, call, o, number);
+            }
+        };
+        (what.to_string(), Box::new(program))
+    });
+    found_in("shapes", usize::MAX, refused.chain(planted(NO_LIMITS)).collect());
 }
 
 #[test]
@@ -1618,7 +1736,7 @@ fn a_small_arena_is_shown_with_the_columns_that_were_lent() {
     let expected = "\
 the export parts from the model
   small_arena(index 0)
-    slot   prev   next  generation     payload
+     slot       prev       next  generation     payload
   header: stack length 0, link count 0, root 0, generation 0
   the model answers 0, found 1, length 0
   the export answers 0, found 1, length 0
@@ -1627,38 +1745,231 @@ the export parts from the model
     assert_eq!(shown.expect("a wrong program").to_string(), expected);
 }
 
-/// Wrong programs that need a slot over 255 or over 32,767.
+/// Wrong programs that need a broken slot over 255, over 32,767 or over 65,535.
 const WRONG_ABOUT_FAR_SLOTS: &[(&str, Wrong)] = &[
     ("a slot of 8 bits", |_, _, o| o.reply.broken &= 0xff),
     ("a slot of 15 bits", |_, _, o| o.reply.broken &= 0x7fff),
+    ("a slot of 16 bits", |_, _, o| o.reply.broken = cut(o.reply.broken)),
     ("another side from slot 32,768 on", |a, _, o| {
         named(a, o, |places| match places[0] {
             (slot @ 32_768.., side) => (slot, PREV + NEXT - side),
             place => place,
         });
     }),
-    ("the last slot not looked at", |a, _, o| {
-        if o.reply.number == 11 && o.reply.broken == 65_535 {
-            found(o, model::broken_places(a).filter(|place| place.0 < 65_535).min());
+    ("slots over 65,535 not looked at", |a, _, o| {
+        if o.reply.number == 11 {
+            found(o, model::broken_places(a).filter(|place| place.0 < CUT).min());
         }
     }),
 ];
 
-/// Wrong programs that need a chain of more than 255 or 32,767 links, or the largest slot.
+/// Wrong programs that need links in slots over 65,535, or slots that are the same if they are cut to 16 bits.
+#[rustfmt::skip]
+#[allow(clippy::collapsible_if)] // as above
+const WRONG_ABOUT_FAR_LINKS: &[(&str, Wrong)] = &[
+    ("check: a freelist of more than 65,535 slots taken for endless", |a, call, o| if o.reply.number == 0 {
+        if a.stack() - a.links() >= CUT as usize {
+            refuse(a, call, o, 9);
+        }
+    }),
+    ("check: a freelist that ends where it points at itself if it is cut", |a, call, o| if o.reply.number == 0 && a.root() != 0 {
+        let (mut visits, mut slot) = (1, a.root());
+        while cut(a.next[slot as usize - 1]) != cut(slot) {
+            (visits, slot) = (visits + 1, a.next[slot as usize - 1]);
+        }
+        if visits < a.stack() - a.links() {
+            refuse(a, call, o, 10);
+        }
+    }),
+    ("check: links that name each other if they are cut", |a, _, o| if o.reply.number == 11 {
+        let fails = |named: &[u32], back: &[u32], s: usize| {
+            let neighbour = named[s - 1] as usize;
+            neighbour != 0 && !(a.is_link(neighbour) && cut(back[neighbour - 1]) == cut(s as u32))
+        };
+        let broken = a.link_slots().any(|s| fails(&a.prev, &a.next, s) || fails(&a.next, &a.prev, s));
+        o.reply.number = if broken { 11 } else { 0 };
+    }),
+    ("get_link: prev cut", |_, call, o| answer_cut(call, o, "get_link", 0)),
+    ("get_link: next cut", |_, call, o| answer_cut(call, o, "get_link", 2)),
+    ("get_link_no_gen: prev cut", |_, call, o| answer_cut(call, o, "get_link_no_gen", 0)),
+    ("get_link_no_gen: next cut", |_, call, o| answer_cut(call, o, "get_link_no_gen", 1)),
+    ("are_neighbors: a next that is the same if it is cut", |a, call, o| if let (Call::AreNeighbors(p, q), 0) = (call, o.reply.number) {
+        if [p, q].iter().all(|p| a.is_link(p.slot as usize) && a.ptr(p.slot as usize) == **p) {
+            o.reply.words[0] = u32::from(cut(a.next[p.slot as usize - 1]) == cut(q.slot));
+        }
+    }),
+    ("walk_start: the start cut", |_, call, o| answer_cut(call, o, "walk_start", 0)),
+    ("walk_start: the position cut", |_, call, o| answer_cut(call, o, "walk_start", 1)),
+    ("walk_start: the advances cut", |_, call, o| answer_cut(call, o, "walk_start", 3)),
+    ("walk_step: the link's slot cut", |_, call, o| answer_cut(call, o, "walk_step", 0)),
+    ("walk_step: the start cut", |_, call, o| answer_cut(call, o, "walk_step", 2)),
+    ("walk_step: the position cut", |_, call, o| answer_cut(call, o, "walk_step", 3)),
+    ("walk_step: the advances cut", |_, call, o| answer_cut(call, o, "walk_step", 5)),
+    ("walk_step: at the start if that is so when it is cut", |a, _, o| at_end(a, o, |a, walk, o| {
+        let next = a.next[walk.position as usize - 1];
+        if next != 0 && cut(next) == cut(walk.start) {
+            o.reply.words[3] = 0;
+        }
+    })),
+    ("walk_step: a state cut", |a, call, o| if let Call::WalkStep(walk) = call {
+        instead(a, o, Call::WalkStep(Walk { start: cut(walk.start), position: cut(walk.position), ..*walk }));
+    }),
+    ("remove: prev cut", |_, call, o| answer_cut(call, o, "remove", 0)),
+    ("remove: next cut", |_, call, o| answer_cut(call, o, "remove", 1)),
+    ("remove: popped if it is the last slot when it is cut", |a, call, o| removed(call, o, |p, o| {
+        if p.slot != a.header[STACK] && cut(p.slot) == cut(a.header[STACK]) {
+            o.arena.header[STACK] -= 1;
+        }
+    })),
+    ("drain: the slot of an item cut", |_, _, o| item_cut(o, 0)),
+    ("drain: the prev of an item cut", |_, _, o| item_cut(o, 2)),
+    ("drain: the next of an item cut", |_, _, o| item_cut(o, 3)),
+    ("run: the slots of commands cut", |a, call, o| run_as(a, call, o, |a, _, command| model::apply(a, &cut_command(command)))),
+    ("insert: the new slot cut", |_, call, o| answer_cut(call, o, "insert", 0)),
+    ("insert: 18 from 65,535 slots on", |a, call, o| if let (Call::Insert(..), 0) = (call, o.reply.number) {
+        if a.root() == 0 && a.header[STACK] >= CUT - 1 {
+            refuse(a, call, o, 18);
+        }
+    }),
+    ("insert: no free slot left if the next one is the same when it is cut", |a, call, o| inserted(call, o, |_, _, _, o| {
+        if a.root() != 0 && cut(o.arena.root()) == cut(a.root()) {
+            o.arena.header[ROOT] = 0;
+        }
+    })),
+    ("insert: between links that are neighbours if they are cut", |a, call, o| if let (Call::Insert(kind, p, q, _), 17) = (call, o.reply.number) {
+        if matches!(*kind, kind::AT_INTERLINK | kind::AT_INTERLINK_INX) && a.is_link(p.slot as usize) {
+            o.reply.number = if cut(a.next[p.slot as usize - 1]) == cut(q.slot) { 0 } else { 17 };
+        }
+    }),
+    ("compress_with: old slots cut", |_, _, o| moved_cut(o, 0)),
+    ("compress_with: new slots cut", |_, _, o| moved_cut(o, 2)),
+    ("compress_canonical: where-from words cut", |a, call, o| where_from(a, call, o, |places, _, n, _| {
+        places[..n].iter_mut().for_each(|word| *word = cut(*word));
+    })),
+    ("compress_with: a link left where it is if its new slot is the same when it is cut", |_, call, o| if let Call::CompressWith(..) = call {
+        changed_moves(o, |words| if cut(words[0]) == cut(words[2]) { words[0] = words[2] });
+    }),
+    ("compress_canonical: a link left where it is if its new slot is the same when it is cut", |a, call, o| where_from(a, call, o, |places, _, n, _| {
+        for (word, slot) in places[..n].iter_mut().zip(1..).filter(|(word, slot)| cut(**word) == cut(*slot)) {
+            *word = slot;
+        }
+    })),
+    ("due_events: the report cut", |_, call, o| rewritten(call, o, |report, count| {
+        report[..count].iter_mut().for_each(|slot| *slot = cut(*slot));
+    })),
+    ("due_count: links over slot 65,535 not counted", |a, call, o| counted(a, call, o, |chain, due| {
+        chain.iter().filter(|&&s| s < CUT as usize && due(s)).count()
+    })),
+];
+
+/// Cuts a word of the answer of a call that is done.
+fn answer_cut(call: &Call, o: &mut Outcome, name: &str, place: usize) {
+    if call.name() == name && matches!(o.reply.number, 0 | 100) {
+        o.reply.words[place] = cut(o.reply.words[place]);
+    }
+}
+
+/// Cuts a word of each item of a drain.
+fn item_cut(o: &mut Outcome, place: usize) {
+    let items = o.reply.words[0] as usize;
+    if let (Call::Drain(_, report), 0) = (&mut o.call, o.reply.number) {
+        report.chunks_exact_mut(5).take(items).for_each(|item| item[place] = cut(item[place]));
+    }
+}
+
+/// Cuts a word of each link in the report of an order-preserving compression.
+fn moved_cut(o: &mut Outcome, place: usize) {
+    changed_moves(o, |words| words[place] = cut(words[place]));
+}
+
+/// Changes the words of each link in the report of an order-preserving compression.
+fn changed_moves(o: &mut Outcome, change: impl Fn(&mut [u32])) {
+    let links = o.arena.header.get(LINKS).map_or(0, |&links| links as usize);
+    if let (Call::CompressWith(_, report), 0 | 100) = (&mut o.call, o.reply.number) {
+        report.chunks_exact_mut(4).take(links).for_each(change);
+    }
+}
+
+/// Some words of an arena.
+type Words = fn(&mut Arena) -> &mut [u32];
+
+/// The words in which a call can write a slot over 65,535, or as many slots.
+#[rustfmt::skip]
+const WRITTEN: &[(&str, Words)] = &[
+    ("prev", |a| &mut a.prev),
+    ("next", |a| &mut a.next),
+    ("root", |a| &mut a.header[ROOT..=ROOT]),
+    ("stack length", |a| &mut a.header[STACK..=STACK]),
+    ("link count", |a| &mut a.header[LINKS..=LINKS]),
+];
+
+/// The calls that do so, each with the words.
+const WRITING: [(&str, &[&str]); 9] = [
+    ("connect", &["prev", "next"]),
+    ("exchange_next", &["prev", "next"]),
+    ("insert", &["prev", "next", "root", "stack length", "link count"]),
+    ("remove", &["prev", "next", "root", "stack length", "link count"]),
+    ("drain", &["next", "root"]),
+    ("canonicalize_freelist", &["next", "root"]),
+    ("run", &["prev", "next", "root", "stack length", "link count"]),
+    ("compress_with", &["prev", "next", "stack length"]),
+    ("compress_canonical", &["prev", "next", "stack length"]),
+];
+
+/// Each of these words cut by each of these calls alone.
+fn cut_when_written() -> Vec<Planted> {
+    let mut programs: Vec<Planted> = Vec::new();
+    for (name, (what, words)) in WRITING.iter().flat_map(|(name, kinds)| {
+        kinds
+            .iter()
+            .map(move |kind| (*name, WRITTEN.iter().find(|(what, _)| what == kind).expect("a kind of word")))
+    }) {
+        let program = move |a: &Arena, call: &Call, o: &mut Outcome| {
+            if call.name() == name && matches!(o.reply.number, 0 | 100) {
+                let mut before = a.clone();
+                for (word, old) in words(&mut o.arena).iter_mut().zip(words(&mut before)) {
+                    *word = if word == old { *old } else { cut(*word) };
+                }
+            }
+        };
+        programs.push((format!("{name}: {what} cut when written"), Box::new(program)));
+    }
+    programs
+}
+
+#[test]
+fn a_program_wrong_about_far_links_is_found_out() {
+    let programs = planted(WRONG_ABOUT_FAR_LINKS).into_iter().chain(cut_when_written());
+    found_in("far_slots", usize::MAX, programs.collect());
+}
+
+/// Wrong programs that need a chain of more than 255, 32,767 or 65,535 links, or the largest slot.
 #[rustfmt::skip]
 const WRONG_ABOUT_FAR_EVENTS: &[(&str, Wrong)] = &[
     ("an event's slot of 8 bits", |_, call, o| rewritten(call, o, |report, count| report[..count].iter_mut().for_each(|slot| *slot &= 0xff))),
     ("an event's slot of 15 bits", |_, call, o| rewritten(call, o, |report, count| report[..count].iter_mut().for_each(|slot| *slot &= 0x7fff))),
+    ("an event's slot of 16 bits", |_, call, o| rewritten(call, o, |report, count| report[..count].iter_mut().for_each(|slot| *slot = cut(*slot)))),
     ("a count of 8 bits", |_, call, o| if matches!(call, Call::DueCount(..)) { o.reply.words[0] &= 0xff }),
     ("a count of 15 bits", |_, call, o| if matches!(call, Call::DueCount(..)) { o.reply.words[0] &= 0x7fff }),
-    ("the largest slot not counted", |a, call, o| counted(a, call, o, |chain, due| chain.iter().filter(|&&s| s < 65_535 && due(s)).count())),
-    ("the largest slot not reported", |a, call, o| reported(a, call, o, |_, events| events.retain(|&s| s < 65_535))),
-    ("65,534 links counted at most", |a, call, o| counted(a, call, o, |chain, due| chain.iter().take(65_534).filter(|&&s| due(s)).count())),
-    ("65,534 links reported at most", |a, call, o| reported(a, call, o, |chain, events| if chain.len() == 65_535 {
-        events.retain(|s| *s != chain[65_534]);
+    ("slots over 65,535 not counted", |a, call, o| counted(a, call, o, |chain, due| chain.iter().filter(|&&s| s < CUT as usize && due(s)).count())),
+    ("slots over 65,535 not reported", |a, call, o| reported(a, call, o, |_, events| events.retain(|&s| s < CUT as usize))),
+    ("65,535 links counted at most", |a, call, o| counted(a, call, o, |chain, due| chain.iter().take(65_535).filter(|&&s| due(s)).count())),
+];
+
+/// Wrong programs that need a chain of 1,048,576 links.
+#[rustfmt::skip]
+const WRONG_ABOUT_THE_LARGEST: &[(&str, Wrong)] = &[
+    ("an event's slot of 20 bits", |_, call, o| rewritten(call, o, |report, count| report[..count].iter_mut().for_each(|slot| *slot %= LIMIT as u32))),
+    ("a pointer of 20 bits", |a, call, o| if let Call::DueEvents(p, from, to, report) = call {
+        instead(a, o, Call::DueEvents(Ptr { slot: p.slot % LIMIT as u32, ..*p }, *from, *to, report.clone()));
+    }),
+    ("a count of 16 bits", |_, call, o| if matches!(call, Call::DueEvents(..)) { o.reply.words[0] = cut(o.reply.words[0]) }),
+    ("the largest slot not reported", |a, call, o| reported(a, call, o, |_, events| events.retain(|&s| s < LIMIT))),
+    ("1,048,575 links reported at most", |a, call, o| reported(a, call, o, |chain, events| if chain.len() == LIMIT {
+        events.retain(|s| *s != chain[LIMIT - 1]);
     })),
-    ("room for 65,534 links is enough", |a, call, o| match (call, o.reply.number) {
-        (Call::DueEvents(p, from, to, report), 14) if report.len() == 65_534 => {
+    ("room for 1,048,575 links is enough", |a, call, o| match (call, o.reply.number) {
+        (Call::DueEvents(p, from, to, report), 14) if report.len() == LIMIT - 1 => {
             o.reply = model_outcome(a, &Call::DueCount(*p, *from, *to)).reply;
         }
         _ => {}
@@ -1667,14 +1978,9 @@ const WRONG_ABOUT_FAR_EVENTS: &[(&str, Wrong)] = &[
 
 #[test]
 fn a_program_wrong_about_far_slots_is_found_out() {
-    for (what, program) in WRONG_ABOUT_FAR_SLOTS {
-        let found = failure(&["random_broken"], 20_000, 2, &side(*program));
-        assert!(found.is_some(), "{what}: passes for right");
-    }
-    for (what, program) in WRONG_ABOUT_FAR_EVENTS {
-        let found = failure(&["random_due"], 20_000, 2, &side(*program));
-        assert!(found.is_some(), "{what}: passes for right");
-    }
+    found_in("random_broken", 20_000, planted(WRONG_ABOUT_FAR_SLOTS));
+    found_in("random_due", 20_000, planted(WRONG_ABOUT_FAR_EVENTS));
+    found_in("largest", 1, planted(WRONG_ABOUT_THE_LARGEST));
 }
 
 #[test]
@@ -1685,9 +1991,9 @@ fn a_broken_link_is_shown_with_its_side() {
     let expected = "\
 the export parts from the model
   check()
-    slot   prev   next  generation     payload
-       1      0      1           2           0
-       2      1      0           2           0
+     slot       prev       next  generation     payload
+        1          0          1           2           0
+        2          1          0           2           0
   header: stack length 2, link count 2, root 0, generation 2
   the model answers 11 at the next of slot 1
   the export answers 11 at the prev of slot 2
@@ -1710,9 +2016,9 @@ fn a_case_is_shown_with_the_words_that_differ() {
     let expected = "\
 the export parts from the model
   connect(slot 1, generation 2, slot 2, generation 2)
-    slot   prev   next  generation     payload
-       1      0      0           2           0
-       2      0      0           2           0
+     slot       prev       next  generation     payload
+        1          0          0           2           0
+        2          0          0           2           0
   header: stack length 2, link count 2, root 0, generation 2
   the model answers 0
   the export answers 0

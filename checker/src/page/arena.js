@@ -31,7 +31,7 @@ class Arena {
     this.whereFrom = words(data.whereFrom);
     this.order = words(data.order);
     this.readRows(words(data.kinds), words(data.lengths));
-    this.readFaults(words(data.faults), data.sentences);
+    this.readFaults(words(data.faults), data.sentences, words(data.unlisted));
     this.readDue(words(data.due), words(data.dueLines), words(data.duePlaces));
   }
 
@@ -53,19 +53,34 @@ class Arena {
     });
   }
 
-  /** Reads the faults, and which ones each slot has. */
-  readFaults(slots, sentences) {
+  /** Reads the faults, which ones each slot has, and the slots that have faults which are not listed. */
+  readFaults(slots, sentences, unlisted) {
     this.faults = Array.from(slots, (slot, k) => ({ slot, sentence: sentences[k] }));
     this.faultsOf = new Map();
     for (const fault of this.faults) {
       if (!this.faultsOf.has(fault.slot)) this.faultsOf.set(fault.slot, []);
       this.faultsOf.get(fault.slot).push(fault);
     }
+    this.isUnlisted = new Uint8Array(this.stack + 1);
+    for (const slot of unlisted) this.isUnlisted[slot] = 1;
   }
 
   /** Reads the links that are due: which one each is, from 1 on, its line, and its place there. */
   readDue(slots, lines, places) {
-    this.due = new Map(Array.from(slots, (slot, k) => [slot, { number: k + 1, line: lines[k], place: places[k] }]));
+    this.dueNumbers = new Uint32Array(this.stack + 1);
+    slots.forEach((slot, k) => (this.dueNumbers[slot] = k + 1));
+    Object.assign(this, { dueCount: slots.length, dueLines: lines, duePlaces: places });
+  }
+
+  /** Which one a slot is of those that are due, its line, and its place there; nothing if it is not due. */
+  due(slot) {
+    const number = this.dueNumbers[slot];
+    return number ? { number, line: this.dueLines[number - 1], place: this.duePlaces[number - 1] } : undefined;
+  }
+
+  /** Whether something is wrong at a slot. */
+  isBroken(slot) {
+    return this.faultsOf.has(slot) || this.isUnlisted[slot] === 1;
   }
 
   /** A word of a slot; one that is not there reads as 0. */

@@ -31,8 +31,9 @@ class Card {
       pair.append(element('dt', '', name), element('dd', '', fact));
       return pair;
     }));
-    const faults = arena.faultsOf.get(slot) ?? [];
-    this.faulty.replaceChildren(...faults.map((fault) => element('p', '', fault.sentence)));
+    const sentences = (arena.faultsOf.get(slot) ?? []).map((fault) => fault.sentence);
+    if (arena.isUnlisted[slot]) sentences.push('More is wrong here than is listed.');
+    this.faulty.replaceChildren(...sentences.map((sentence) => element('p', '', sentence)));
   }
 
   /** Shows where a pointer of a slot leads. */
@@ -63,8 +64,8 @@ class Card {
     } else {
       facts.push(['Free', row.kind === FREELIST ? `on the freelist, ${place}` : 'not on the freelist']);
     }
-    const due = arena.due.get(slot);
-    if (due) facts.push(['Due', `${due.number} of ${arena.due.size}: line ${due.line}, place ${due.place}`]);
+    const due = arena.due(slot);
+    if (due) facts.push(['Due', `${due.number} of ${arena.dueCount}: line ${due.line}, place ${due.place}`]);
     const from = arena.isLink(slot) && arena.whereFrom[slot - 1];
     if (from) facts.push(['Came from', `slot ${from}`]);
     if (whereTo?.[slot]) facts.push(['Went to', `slot ${whereTo[slot]}`]);

@@ -82,7 +82,7 @@ class View {
       const button = element('button', '', name);
       button.append(element('b', '', this.countOf(part)));
       button.hidden = this.parts[part].length === 0;
-      button.addEventListener('click', () => (this.list.box.scrollTop = this.list.tops[this.partLines[part]]));
+      button.addEventListener('click', () => this.list.goTo(this.list.tops[this.partLines[part]]));
       nav.append(button);
       return button;
     });
@@ -157,18 +157,14 @@ class View {
   /** Lays the list out for a width, and keeps its place. */
   lay(width = this.list.space.clientWidth || this.faults.space.clientWidth) {
     const { list } = this;
-    const seen = list.lines[list.lineAt(list.box.scrollTop)];
+    const seen = list.lines[list.lineAt(list.top)];
     this.width = width;
     this.measure();
     list.set(this.makeLines());
     this.faults.set(this.makeFaultLines());
-    if (seen?.row && list.box.scrollTop > 0) {
-      list.box.scrollTop = list.tops[this.lineOf(seen.row, seen.from)];
-      list.render();
-    }
-    const height = list.tops[list.lines.length];
-    list.box.style.minHeight = `${Math.min(height, LEAST_HEIGHT)}px`;
-    this.nav[0].parentNode.hidden = height < NAV_FROM;
+    if (seen?.row && list.top > 0) list.goTo(list.tops[this.lineOf(seen.row, seen.from)]);
+    list.box.style.minHeight = `${Math.min(list.height, LEAST_HEIGHT)}px`;
+    this.nav[0].parentNode.hidden = list.height < NAV_FROM;
     this.markPart();
   }
 
@@ -215,7 +211,7 @@ class View {
     node.append(element('b', '', most.slot), element('span', '', missing ? 'missing' : most.payload));
     if (most.generation > 0) node.append(element('small', '', `gen ${most.generation}`));
     if (most.tie > 0) node.append(element('small', '', `from ${most.tie}`));
-    if (arena.due.size > 0) node.append(element('small', 'due-number', `due ${arena.due.size}`));
+    if (arena.dueCount > 0) node.append(element('small', 'due-number', `due ${arena.dueCount}`));
     return node;
   }
 
@@ -357,11 +353,11 @@ class View {
     }
     const tie = this.tieOf(slot);
     if (tie) node.append(element('small', 'tie', `${tie.word} ${tie.slot}`));
-    const due = arena.due.get(slot);
+    const due = arena.due(slot);
     if (due) node.append(element('small', 'due-number', `due ${due.number}`));
     node.classList.toggle('due', due !== undefined);
     node.classList.toggle('free', !arena.isLink(slot));
-    node.classList.toggle('broken', arena.faultsOf.has(slot));
+    node.classList.toggle('broken', arena.isBroken(slot));
     node.id = `panel-${this.number}-slot-${slot}`;
     node.dataset.slot = slot;
     node.setAttribute('role', 'option');
@@ -400,7 +396,7 @@ class View {
   markPart() {
     const { list } = this;
     const end = list.box.scrollTop > 0 && list.box.scrollTop + list.box.clientHeight >= list.box.scrollHeight - 1;
-    const seen = end ? list.lines.length - 1 : list.lineAt(list.box.scrollTop);
+    const seen = end ? list.lines.length - 1 : list.lineAt(list.top);
     this.nav.forEach((button, part) => {
       button.setAttribute('aria-current', String(list.lines[seen]?.part === part));
     });

@@ -7,8 +7,8 @@ use super::{Ran, SAMPLE, arenas, checker, folder, one_chain, panels, says, verdi
 
 /// The kinds of pointers and numbers that are expected in commands.
 const POINTER: &str =
-    "a pointer `SLOT:GENERATION` with a slot from 0 to 65535 and a generation from 0 to 4294967295";
-const SLOT: &str = "a slot without a generation, a number from 0 to 65535";
+    "a pointer `SLOT:GENERATION` with a slot from 0 to 4294967295 and a generation from 0 to 4294967295";
+const SLOT: &str = "a slot without a generation, a number from 0 to 4294967295";
 const NUMBER: &str = "a number from 0 to 4294967295";
 
 /// What is expected where a command or a kind of insertion stands.
@@ -146,14 +146,14 @@ header 0 0 0 2
 fn what_became_of_commands_stands_below_each_other() {
     // One that is longer than 40 characters does not draw the others out.
     let [short, almost] = ["remove 9:9".to_string(), format!("remove {}9:9", "0".repeat(29))];
-    let long = "insert at_interlink_inx 65535 65535 4294967295";
+    let long = "insert at_interlink_inx 65537 4294967295 4294967295";
     let ran = apply("width", PLAIN.as_bytes(), format!("{short}\n{almost}\n{long}").as_bytes(), &[]);
     let said: Vec<&str> = ran.stdout.lines().skip(1).take(3).collect();
     let stale = "refused with 12: 9:9 is stale: slot 9 is not on the stack, whose length is 6";
     let expected = [
         format!("#   line 1  {short}{}  {stale}", " ".repeat(30)),
         format!("#   line 2  {almost}   {stale}"),
-        format!("#   line 3  {long}  refused with 17: slot 65535 is not on the stack, whose length is 6"),
+        format!("#   line 3  {long}  refused with 17: slot 65537 is not on the stack, whose length is 6"),
     ];
     assert_eq!(said, expected);
 }
@@ -416,8 +416,8 @@ fn what_is_wrong_with_a_command_has_its_place() {
             format!("1:22: found `1:5`, expected SLOT of `insert chain_end_inx`, {SLOT}"),
         ),
         (
-            "insert chain_end_inx 65536 7",
-            format!("1:22: found `65536`, expected SLOT of `insert chain_end_inx`, {SLOT}"),
+            "insert chain_end_inx 4294967296 7",
+            format!("1:22: found `4294967296`, expected SLOT of `insert chain_end_inx`, {SLOT}"),
         ),
         // Characters.
         ("remove\u{a0}\u{e9}", format!("1:8: found `\u{e9}`, expected P of `remove`, {POINTER}")),
@@ -446,12 +446,8 @@ fn what_is_wrong_with_a_command_has_its_place() {
 #[test]
 fn only_numbers_that_fit_are_read() {
     let signs = ["-1", "+1", "0x1", "1_0", "1,0", "1.0", "1e2", "x", "\u{661}"];
-    let wrong = |largest: u64| {
-        signs.map(str::to_string).into_iter().chain([(largest + 1).to_string(), "9".repeat(30)])
-    };
-    let (slots, numbers) = (|| wrong(65_535), || wrong(u32::MAX.into()));
-    let pointers = slots().map(|slot| format!("{slot}:5"));
-    let pointers = pointers.chain(numbers().map(|generation| format!("1:{generation}")));
+    let wrong = || signs.map(str::to_string).into_iter().chain(["4294967296".to_string(), "9".repeat(30)]);
+    let pointers = wrong().flat_map(|word| [format!("{word}:5"), format!("1:{word}")]);
     for word in pointers.chain(["1", "1:", ":5", ":", "1:5:7", "1::5"].map(str::to_string)) {
         is_told(
             "pointer",
@@ -459,11 +455,11 @@ fn only_numbers_that_fit_are_read() {
             &format!("1:8: found `{word}`, expected P of `remove`, {POINTER}"),
         );
     }
-    for word in slots() {
+    for word in wrong() {
         let message = format!("1:21: found `{word}`, expected SLOT of `insert next_to_inx`, {SLOT}");
         is_told("slot", format!("insert next_to_inx  {word} 7").as_bytes(), &message);
     }
-    for word in numbers() {
+    for word in wrong() {
         let message = format!("1:21: found `{word}`, expected PAYLOAD of `insert disconnected`, {NUMBER}");
         is_told("payload", format!("insert disconnected {word}").as_bytes(), &message);
     }
@@ -516,7 +512,7 @@ fn every_word_that_is_missing_is_named() {
 }
 
 #[test]
-fn commands_are_applied_to_the_largest_arena() {
+fn commands_are_applied_to_a_large_arena() {
     let arena = one_chain(65_535, false);
     let commands = "insert disconnected 1\nremove 65535:5\ninsert prev_to_inx 1 7\nremove 2:5\ninsert bridge_inx 65535 1 8\n";
     let ran = apply("largest", arena.as_bytes(), commands.as_bytes(), &[]);
@@ -535,6 +531,44 @@ fn commands_are_applied_to_the_largest_arena() {
     assert!(
         left.stdout
             .starts_with("standard input: passes the check: 65534 links on 1 open and 0 closed chains, ")
+    );
+}
+
+#[test]
+fn commands_name_slots_past_65535() {
+    // 65,541 is 5 in 16 bits, and 65,536 is none
+    let arena = one_chain(70_000, false);
+    let commands = "remove 65541:5\nbreak_next 65536:5\ninsert chain_end_inx 65536 7\nexchange_next 4:5 65545:5\nremove 131077:5\n";
+    let ran = apply("past", arena.as_bytes(), commands.as_bytes(), &["--around", "5"]);
+    let said: Vec<&str> = ran.stdout.lines().take(6).collect();
+    let expected = [
+        "# FILE, after COMMANDS: 5 commands, 1 refused",
+        "#   line 1  remove 65541:5                done",
+        "#   line 2  break_next 65536:5            done",
+        "#   line 3  insert chain_end_inx 65536 7  done: the new link is 65541:6",
+        "#   line 4  exchange_next 4:5 65545:5     done",
+        "#   line 5  remove 131077:5               refused with 12: 131077:5 is stale: slot 131077 is not on the stack, whose length is 70000",
+    ];
+    assert_eq!((said, ran.status), (expected.to_vec(), 1));
+    let row = |slot: u32| ran.stdout.lines().find(|line| line.starts_with(&format!("{slot:>6} "))).unwrap();
+    let neighbours = |slot| row(slot).split_whitespace().skip(1).take(2).collect::<Vec<_>>().join(" ");
+    let found = [4, 5, 65_536, 65_537, 65_540, 65_541, 65_542, 65_545, 65_546].map(neighbours);
+    let expected = [
+        "3 65546",
+        "65545 6",
+        "65535 65541",
+        "0 65538",
+        "65539 65542",
+        "65536 0",
+        "65540 65543",
+        "65544 5",
+        "4 65547",
+    ];
+    assert_eq!(found, expected);
+    let left = with_input(&["check", "-"], ran.stdout.as_bytes());
+    assert!(
+        left.stdout
+            .starts_with("standard input: passes the check: 70000 links on 2 open and 0 closed chains, ")
     );
 }
 

@@ -3,7 +3,9 @@
 use std::fs;
 use std::path::Path;
 
-use super::{Ran, SAMPLE, arenas, changed, checker, drawn_as, folder, says, with_input, word, xml};
+use super::{
+    MOST, Ran, SAMPLE, arenas, changed, checker, drawn_as, folder, one_chain, says, with_input, word, xml,
+};
 
 /// Asks what is due in the arena of a text, which is called FILE in what is said.
 fn due(name: &str, text: &str, when: [&str; 4]) -> Ran {
@@ -81,7 +83,8 @@ fn a_stale_pointer_is_refused_before_a_window_that_is_none() {
         ("3", "5", "slot 3 is free"),
         ("1", "4", "slot 1 holds generation 5"),
         ("6", "5", "slot 6 is not on the stack, whose length is 5"),
-        ("65535", "4294967295", "slot 65535 is not on the stack, whose length is 5"),
+        ("65537", "5", "slot 65537 is not on the stack, whose length is 5"),
+        ("4294967295", "4294967295", "slot 4294967295 is not on the stack, whose length is 5"),
     ] {
         for (from, to) in [("0", "89342"), ("89342", "0"), ("0", "89343"), ("4294967295", "4294967295")] {
             let ran = due("stale", SAMPLE, [slot, generation, from, to]);
@@ -89,6 +92,26 @@ fn a_stale_pointer_is_refused_before_a_window_that_is_none() {
             assert_eq!((ran.stdout, ran.stderr.as_str(), ran.status), (refused, "", 1));
         }
     }
+}
+
+#[test]
+fn links_past_65535_are_listed_by_their_slots() {
+    // the last slot has the payload that slot 7 has
+    let links = MOST.to_string();
+    let text = one_chain(MOST, false).replace(&format!(" 0 5 {links}\n"), " 0 5 7\n");
+    let ran = due("past", &text, ["65538", "5", "7", "9"]);
+    let said: Vec<&str> = ran.stdout.lines().collect();
+    let first = format!("FILE: the chain of 65538:5 has {links} links, of which 3 are due");
+    assert_eq!((said[0], ran.stderr.as_str(), ran.status), (first.as_str(), "", 0));
+    let width = links.len() + 2;
+    let line = |slot: &str, rest: &str| format!("{slot:>width$}{rest}");
+    let listed = [
+        line("slot", "  line  place  payload"),
+        line(&links, "     0      7        7"),
+        line("8", "     0      8        8"),
+        line("7", "     0      7        7"),
+    ];
+    assert_eq!(said[said.len() - 4..], listed);
 }
 
 #[test]
@@ -145,15 +168,12 @@ fn wrong_use_is_told() {
         let message = format!("{needs} {given}\n`checker --help` tells how it is called\n");
         assert_eq!((ran.stdout.as_str(), ran.stderr, ran.status), ("", message, 2));
     }
-    for (place, name, most) in
-        [(2, "SLOT", 65_535), (3, "GENERATION", u32::MAX), (4, "FROM", u32::MAX), (5, "TO", u32::MAX)]
-    {
-        let too_large = (u64::from(most) + 1).to_string();
-        for word in ["", "x", "+6", "6.0", "0x6", &too_large, "99999999999999999999"] {
+    for (place, name) in [(2, "SLOT"), (3, "GENERATION"), (4, "FROM"), (5, "TO")] {
+        for word in ["", "x", "+6", "6.0", "0x6", "4294967296", "99999999999999999999"] {
             let mut words = words[..6].to_vec();
             words[place] = word;
             let ran = checker(&words);
-            let message = format!("`due` needs {name}, a number from 0 to {most}, found `{word}`\n");
+            let message = format!("`due` needs {name}, a number from 0 to 4294967295, found `{word}`\n");
             assert_eq!((ran.stdout.as_str(), ran.status), ("", 2));
             assert_eq!(ran.stderr, format!("{message}`checker --help` tells how it is called\n"));
         }

@@ -78,7 +78,7 @@ pub replied-whole : (r : Answer) (fields : List ℕ) (left : Arena) (back : List
 replied-whole r fields left back = (refl, refl, refl, refl, refl, refl)
 
 pub answered-whole : (c : Call) (a : Arena) (l : List ℕ) (r : Answer) (fields : List ℕ) (left : Arena) (back : List ℕ) → Answered c a l r fields left back
-    → record { number = r .number; broken = r .broken; side = r .side; fields = fields; arena = left; back = back } ≡ replyTo 65535 4294967295 c a l
+    → record { number = r .number; broken = r .broken; side = r .side; fields = fields; arena = left; back = back } ≡ replyTo 1048576 4294967295 c a l
 answered-whole c a l r fields left back p = p
 
 -- so two answers to one call on one arena have the same words, slot and side with 11 among them

@@ -37,8 +37,8 @@ pub struct LinkNoGenResult {
 
 // The check of a lent arena, as it is answered: 0, or the refusal of every call on this arena.
 pub fn checked(
-    prev: &[u16],
-    next: &[u16],
+    prev: &[u32],
+    next: &[u32],
     generation: &[u32],
     payload: &[u32],
     header: &[u32],

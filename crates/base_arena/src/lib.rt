@@ -11,10 +11,13 @@ use header::HEADER_WORDS;
 use header::LINK_COUNT;
 use header::STACK_LENGTH;
 
+// The largest capacity: no slot number is above it.
+pub const CAPACITY_LIMIT: usize = 1048576;
+
 // Whether the lengths of columns and header are wrong: refusal 1.
 pub fn is_misshapen(
-    prev: &[u16],
-    next: &[u16],
+    prev: &[u32],
+    next: &[u32],
     generation: &[u32],
     payload: &[u32],
     header: &[u32],
@@ -25,7 +28,7 @@ pub fn is_misshapen(
     if header.len() != HEADER_WORDS {
         return true;
     }
-    if 65535 < capacity {
+    if CAPACITY_LIMIT < capacity {
         return true;
     }
     if next.len() != capacity {
@@ -41,7 +44,7 @@ pub fn is_misshapen(
 }
 
 // Refusals 1 to 3, or 0.
-pub fn shape(prev: &[u16], next: &[u16], generation: &[u32], payload: &[u32], header: &[u32]) -> u32
+pub fn shape(prev: &[u32], next: &[u32], generation: &[u32], payload: &[u32], header: &[u32]) -> u32
     ensures { λ r. ⌜ r ≡ shapeOf capacityLimit (atEntry prev next generation payload header) ⌝ }
 {
     if is_misshapen(prev, next, generation, payload, header) {
@@ -77,7 +80,7 @@ pub fn allocated_slots(generation: &[u32], n: usize) -> u32
 }
 
 // Walks the freelist from the root over the first n slots, of which so many are free: refusals 6 to 10, or 0.
-pub fn freelist(next: &[u16], generation: &[u32], n: usize, root: usize, free: usize) -> u32
+pub fn freelist(next: &[u32], generation: &[u32], n: usize, root: usize, free: usize) -> u32
     requires { ⌜ (n ≤ length (now next)) × (n ≤ length (now generation)) × (n ≤ capacityLimit) × (free ≡ length (freeSlots (now generation) n)) ⌝ }
     ensures { λ r. ⌜ r ≡ freelistWalk (now (next .entry)) (now (generation .entry)) n (n + 2) root 0 ⌝ }
 {
@@ -90,16 +93,20 @@ pub fn freelist(next: &[u16], generation: &[u32], n: usize, root: usize, free: u
         if n < slot {
             return 7;
         }
-        if generation[slot - 1] != 0 {
-            return 8;
-        }
+        // where the list goes on is read before whether the slot is free: that is what takes longest to come
         let to = next[slot - 1] as usize;
         visited += 1;
         if to == slot {
+            if generation[slot - 1] != 0 {
+                return 8;
+            }
             if visited < free {
                 return 10;
             }
             return 0;
+        }
+        if generation[slot - 1] != 0 {
+            return 8;
         }
         slot = to;
     }
@@ -107,7 +114,7 @@ pub fn freelist(next: &[u16], generation: &[u32], n: usize, root: usize, free: u
 }
 
 // Refusals 4 to 10, or 0: of the first n slots, with the link count and the root that the header says.
-pub fn counts(next: &[u16], generation: &[u32], n: usize, links: u32, root: usize) -> u32
+pub fn counts(next: &[u32], generation: &[u32], n: usize, links: u32, root: usize) -> u32
     requires { ⌜ (n ≤ length (now next)) × (n ≤ length (now generation)) × (n ≤ capacityLimit) ⌝ }
     ensures { λ r. ⌜ r ≡ countsOf (now (next .entry)) (now (generation .entry)) n links root ⌝ }
 {

@@ -78,19 +78,7 @@ pub fn highest_link(generation: &[u32], n: usize) -> usize
     m
 }
 
-// Puts 0 into the slots of a link column past slot m, up to slot n.
-pub fn clear_links(column: &mut [u16], m: usize, n: usize)
-    requires { ⌜ (m ≤ n) × (n ≤ length (now column)) ⌝ }
-    ensures { λ _. ⌜ now (column .exit) ≡ popped m n (now (column .entry)) ⌝ }
-{
-    let mut i = m;
-    while i < n {
-        column[i] = 0;
-        i += 1;
-    }
-}
-
-// Puts 0 into the slots of a generation or payload column past slot m, up to slot n.
+// Puts 0 into the slots of a column past slot m, up to slot n.
 pub fn clear_words(column: &mut [u32], m: usize, n: usize)
     requires { ⌜ (m ≤ n) × (n ≤ length (now column)) ⌝ }
     ensures { λ _. ⌜ now (column .exit) ≡ popped m n (now (column .entry)) ⌝ }
@@ -104,8 +92,8 @@ pub fn clear_words(column: &mut [u32], m: usize, n: usize)
 
 // Pops the slots past slot m of a stack of n: their words become 0, in every column.
 pub fn pop_slots(
-    prev: &mut [u16],
-    next: &mut [u16],
+    prev: &mut [u32],
+    next: &mut [u32],
     generation: &mut [u32],
     payload: &mut [u32],
     m: usize,
@@ -115,16 +103,16 @@ pub fn pop_slots(
     ensures { λ _. ⌜ (now (prev .exit) ≡ popped m n (now (prev .entry))) × (now (next .exit) ≡ popped m n (now (next .entry)))
         × (now (generation .exit) ≡ popped m n (now (generation .entry))) × (now (payload .exit) ≡ popped m n (now (payload .entry))) ⌝ }
 {
-    clear_links(prev, m, n);
-    clear_links(next, m, n);
+    clear_words(prev, m, n);
+    clear_words(next, m, n);
     clear_words(generation, m, n);
     clear_words(payload, m, n);
 }
 
 // Lists the free slots of a stack of m slots in rising order, so that the highest points at itself. Answers the lowest, which is the root; 0 for
 // none.
-pub fn relist(next: &mut [u16], generation: &[u32], m: usize) -> u16
-    requires { ⌜ (m ≤ length (now next)) × (m ≤ length (now generation)) × (m ≤ 65535) ⌝ }
+pub fn relist(next: &mut [u32], generation: &[u32], m: usize) -> u32
+    requires { ⌜ (m ≤ length (now next)) × (m ≤ length (now generation)) × (m ≤ capacityLimit) ⌝ }
     ensures { λ r. ⌜ (r ≡ firstOr 0 (freeSlots (now (generation .entry)) m)) × (now (next .exit) ≡ threaded (now (next .entry)) (freeSlots (now (generation .entry)) m)) ⌝ }
 {
     let mut earliest_free: usize = 0;
@@ -132,21 +120,21 @@ pub fn relist(next: &mut [u16], generation: &[u32], m: usize) -> u16
     while i != 0 {
         if generation[i - 1] == 0 {
             if earliest_free == 0 {
-                next[i - 1] = i as u16;
+                next[i - 1] = i as u32;
             } else {
-                next[i - 1] = earliest_free as u16;
+                next[i - 1] = earliest_free as u32;
             }
             earliest_free = i;
         }
         i -= 1;
     }
-    earliest_free as u16
+    earliest_free as u32
 }
 
 // Pops the free end slots and lists the other free slots anew, on an arena that passed the check.
 pub fn canonicalize_freelist(
-    prev: &mut [u16],
-    next: &mut [u16],
+    prev: &mut [u32],
+    next: &mut [u32],
     generation: &mut [u32],
     payload: &mut [u32],
     header: &mut [u32],
@@ -159,6 +147,6 @@ pub fn canonicalize_freelist(
     let m = highest_link(&*generation, n);
     let root = relist(&mut *next, &*generation, m);
     pop_slots(prev, next, generation, payload, m, n);
-    header[ROOT] = root as u32;
+    header[ROOT] = root;
     header[STACK_LENGTH] = m as u32;
 }

@@ -8,10 +8,9 @@ use lib.Dec.{eqb}
 use Rattle.definitions.specs.Arena.{Arena, capacityLimit, headerWords}
 use Rattle.definitions.specs.Insert.{newSlot}
 
--- the root fits a slot, and so does the slot after the stack, which is at most the capacity
+-- the slot after the stack is at most the limit, as the capacity is
 pub record Roomy (h : List ℕ) (capacity : ℕ) : Type 0 where
   pub header : length h ≡ headerWords
-  pub rooted : getD h 2 0 ≤ capacityLimit
   pub stack : getD h 0 0 ≤ capacity
   pub small : capacity ≤ capacityLimit
 
@@ -24,7 +23,6 @@ pub record Countable (ns h : List ℕ) : Type 0 where
   pub header : length h ≡ headerWords
   pub stack : getD h 0 0 ≤ capacityLimit
   pub links : getD h 1 0 ≤ capacityLimit
-  pub small : getD h 2 0 ≤ capacityLimit
   pub rooted : getD h 2 0 ≤ length ns
 
 -- what a link in slot t between u and v needs: t is the new slot, and t, u and v stand in the columns that they are written to

@@ -26,17 +26,17 @@ pub fn new_slot(header: &[u32], capacity: usize) -> Slot
 {
     let root = header[ROOT];
     if root != 0 {
-        return Slot(root as u16);
+        return Slot(root);
     }
     let n = header[STACK_LENGTH];
     if n as usize == capacity {
         return Slot(0);
     }
-    Slot((n + 1) as u16)
+    Slot(n + 1)
 }
 
 // The root after the root was taken: where its freelist pointer leads, 0 where that is the root itself.
-pub fn root_after(next: &[u16], root: Slot) -> Slot
+pub fn root_after(next: &[u32], root: Slot) -> Slot
     requires { ⌜ (0 < root .0) × (root .0 ≤ length (now next)) ⌝ }
     ensures { λ r. ⌜ r .0 ≡ cond (eqb (at (now (next .entry)) (root .0)) (root .0)) 0 (at (now (next .entry)) (root .0)) ⌝ }
 {
@@ -48,7 +48,7 @@ pub fn root_after(next: &[u16], root: Slot) -> Slot
 }
 
 // Counts a new link in the header, and takes the root or, where there is none, the slot after the stack.
-pub fn count_insertion(next: &[u16], header: &mut [u32])
+pub fn count_insertion(next: &[u32], header: &mut [u32])
     requires { ⌜ Countable (now next) (now header) ⌝ }
     ensures { λ _. ⌜ ((ps gs vs : List ℕ) → now (header .exit) ≡ headerAfter (arena ps (now (next .entry)) gs vs (now (header .entry)))) ⌝ }
 {
@@ -59,12 +59,12 @@ pub fn count_insertion(next: &[u16], header: &mut [u32])
     if root == 0 {
         header[STACK_LENGTH] = n + 1;
     } else {
-        header[ROOT] = root_after(next, Slot(root as u16)).0 as u32;
+        header[ROOT] = root_after(next, Slot(root)).0;
     }
 }
 
 // One side of a new link t in a link column: u becomes its own neighbour there, and it that of v, if there is a v.
-pub fn put_in(column: &mut [u16], t: Slot, u: Slot, v: Slot)
+pub fn put_in(column: &mut [u32], t: Slot, u: Slot, v: Slot)
     requires { ⌜ (0 < t .0) × (t .0 ≤ length (now column)) × (v .0 ≤ length (now column)) ⌝ }
     ensures { λ _. ⌜ now (column .exit) ≡ put (put (now (column .entry)) (t .0) (u .0)) (v .0) (t .0) ⌝ }
 {
@@ -74,8 +74,8 @@ pub fn put_in(column: &mut [u16], t: Slot, u: Slot, v: Slot)
 
 // A link of payload x in slot t, between the slots u and v; 0 where there is none.
 pub fn insert_between(
-    prev: &mut [u16],
-    next: &mut [u16],
+    prev: &mut [u32],
+    next: &mut [u32],
     generation: &mut [u32],
     payload: &mut [u32],
     header: &mut [u32],

@@ -12,8 +12,8 @@ use ptr::Slot;
 
 // Takes slot s out of its chain and out of use, and raises the generation. Answers whether that overflowed.
 pub fn take_out(
-    prev: &mut [u16],
-    next: &mut [u16],
+    prev: &mut [u32],
+    next: &mut [u32],
     generation: &mut [u32],
     payload: &mut [u32],
     header: &mut [u32],
@@ -25,7 +25,7 @@ pub fn take_out(
         (atExit prev next generation payload header) r ⌝ }
 {
     let n = header[STACK_LENGTH];
-    let last = s.0 as u32;
+    let last = s.0;
     join(&mut *prev, &mut *next, s);
     let overflow = count_removal(&mut *header);
     if last == n {

@@ -1,4 +1,4 @@
--- A link of a well formed arena can be taken out: its neighbours and the root are in the stack, and there is a link to count off. Assumes nothing.
+-- A link of a well formed arena can be taken out: its neighbours are in the stack, and there is a link to count off. Assumes nothing.
 use Prim.Native.Nat.{ℕ, _≤_, _<_}
 use mathlib.Core.Path.{_≡_}
 use mathlib.Core.Bool.{true}
@@ -8,7 +8,6 @@ use native.Mathlib.Decide.{ℕ-discrete}
 use lib.ListN.{length}
 use Rattle.definitions.specs.Arena.{Arena, capacityLimit, stackLength, linkSlots, isLink}
 use Rattle.definitions.specs.Check.{WellFormed, Neighbour}
-use Rattle.definitions.proofs.Freelist.{root-within}
 use Rattle.definitions.proofs.Slots.{allocated-some, allocated-within}
 use Rattle.definitions.proofs.Count.{In, not-in-nil, count-links}
 use Rattle.base_slots.specs.Removal.{Removable}
@@ -31,13 +30,11 @@ removable a s ok l =
     let within = allocated-within (a .generation) (stackLength a) s l in
     let before = neighbour-within a (a .next) s _ (ok .prev s l) in
     let after = neighbour-within a (a .prev) s _ (ok .next s l) in
-    let root = root-within a (ok .freelist .0) (ok .freelist .1) in
     let listed = some-member s (linkSlots (a .generation) (stackLength a)) (omega (arith, count-links (a .generation) (stackLength a) s l)) in
     let counts = ok .links in
     record {
       header = ok .header;
       stands = omega arith;
       joinable = omega arith;
-      rooted = omega arith;
       counted = omega arith;
     }

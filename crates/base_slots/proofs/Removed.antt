@@ -9,7 +9,7 @@ use lib.ListN.{length, getD, set}
 use lib.Seq.{getD-set-other}
 use borrow.Author.Tests.{eq-eqb, ne-eqb}
 use Rattle.definitions.proofs.Columns.{at-place, put-place}
-use Rattle.definitions.specs.Arena.{Arena, arena, capacityLimit, headerWords, stackLength, withStackLength, withRoot, withCurrent}
+use Rattle.definitions.specs.Arena.{Arena, arena, headerWords, stackLength, withStackLength, withRoot, withCurrent}
 use Rattle.definitions.specs.Columns.{at, put}
 use Rattle.definitions.specs.Remove.{joined, vacated, removed}
 use Rattle.base_slots.specs.Removal.{Stands, Removable, fewer, Counted, TakenOut}
@@ -55,8 +55,8 @@ module _ {top : ℕ} {a : Arena} {s : ℕ} {qs ms h : List ℕ} {over : Bool} (r
   pub poppable : s ≡ stackLength a → Stands qs ms (a .generation) (a .payload) s × ((length h ≡ headerWords) × (s ≡ getD h 0 0))
   poppable l = (stands, (w ∙ r .header, l ∙ sym (stack-stays k)))
 
-  pub freeable : Stands qs ms (a .generation) (a .payload) s × ((length h ≡ headerWords) × (getD h 2 0 ≤ capacityLimit))
-  freeable = (stands, (w ∙ r .header, rw (root-stays k) (r .rooted)))
+  pub freeable : Stands qs ms (a .generation) (a .payload) s × (length h ≡ headerWords)
+  freeable = (stands, w ∙ r .header)
 
 -- the neighbours joined, the removal counted, and the slot popped or freed: the slot is taken out
 module _ {top : ℕ} {a : Arena} {s : ℕ} {qs ms h : List ℕ} {over : Bool} {left : Arena} (j : arena qs ms (a .generation) (a .payload) (a .header) ≡ joined a s)

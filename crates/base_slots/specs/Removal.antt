@@ -7,10 +7,8 @@ use lib.ListN.{length, getD}
 use Rattle.definitions.specs.Columns.{at}
 use Rattle.definitions.specs.Arena.{
   Arena,
-  capacityLimit,
   headerWords,
   linkCount,
-  root,
   current,
   withLinkCount,
   withCurrent,
@@ -43,12 +41,11 @@ pub record Counted (top : ℕ) (h left : List ℕ) (overflow : Bool) : Type 0 wh
   pub header : left ≡ fewer top h
   pub overflowed : overflow ≡ overflows top (getD h 3 0)
 
--- what taking slot s out needs: it stands in all columns, so do the neighbours that it names, the root fits a slot, and there is a link to count off
+-- what taking slot s out needs: it stands in all columns, so do the neighbours that it names, and there is a link to count off
 pub record Removable (a : Arena) (s : ℕ) : Type 0 where
   pub header : length (a .header) ≡ headerWords
   pub stands : Stands (a .prev) (a .next) (a .generation) (a .payload) s
   pub joinable : Joinable (a .prev) (a .next) s
-  pub rooted : root a ≤ capacityLimit
   pub counted : 0 < linkCount a
 
 -- the arena that taking slot s out leaves, and whether the generation overflowed

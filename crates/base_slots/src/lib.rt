@@ -5,7 +5,7 @@ ghost use mathlib.Core.List.{List};
 ghost use Prim.Native.Nat.{ℕ, _-_, _≤_, _<_};
 ghost use lib.Dec.{eqb};
 ghost use lib.ListN.{length, getD};
-ghost use Rattle.definitions.specs.Arena.{arena, capacityLimit, largestGeneration, headerWords, withStackLength, withRoot};
+ghost use Rattle.definitions.specs.Arena.{arena, largestGeneration, headerWords, withStackLength, withRoot};
 ghost use Rattle.definitions.specs.Lent.{atEntry, atExit};
 ghost use Rattle.definitions.specs.Remove.{joined, vacated};
 ghost use Rattle.base_slots.specs.Removal.{Joinable, Stands, Counted};
@@ -18,7 +18,7 @@ use ptr::Gen;
 use ptr::Slot;
 
 // Joins the neighbours of slot s: they name each other.
-pub fn join(prev: &mut [u16], next: &mut [u16], s: Slot)
+pub fn join(prev: &mut [u32], next: &mut [u32], s: Slot)
     requires { ⌜ Joinable (now prev) (now next) (s .0) ⌝ }
     ensures { λ _. ⌜ ((gs vs h : List ℕ) → arena (now (prev .exit)) (now (next .exit)) gs vs h ≡ joined (arena (now (prev .entry)) (now (next .entry)) gs vs h) (s .0)) ⌝ }
 {
@@ -31,8 +31,8 @@ pub fn join(prev: &mut [u16], next: &mut [u16], s: Slot)
 
 // Empties slot s: its next gets the freelist pointer f, 0 for a popped slot, and its other words 0.
 pub fn vacate(
-    prev: &mut [u16],
-    next: &mut [u16],
+    prev: &mut [u32],
+    next: &mut [u32],
     generation: &mut [u32],
     payload: &mut [u32],
     s: Slot,
@@ -63,8 +63,8 @@ pub fn count_removal(header: &mut [u32]) -> bool
 
 // Pops slot s, the last of the stack. The freelist stays as it is.
 pub fn pop(
-    prev: &mut [u16],
-    next: &mut [u16],
+    prev: &mut [u32],
+    next: &mut [u32],
     generation: &mut [u32],
     payload: &mut [u32],
     header: &mut [u32],
@@ -77,36 +77,35 @@ pub fn pop(
         (withStackLength (s .0 - 1) (now (header .entry))) ⌝ }
 {
     vacate(prev, next, generation, payload, s, Slot(0));
-    header[STACK_LENGTH] = s.0 as u32 - 1;
+    header[STACK_LENGTH] = s.0 - 1;
 }
 
 // Where the freelist goes on from a slot s that is freed: at the root that was, or at s itself where none was.
 pub fn freelist_pointer(root: u32, s: Slot) -> Slot
-    requires { ⌜ root ≤ capacityLimit ⌝ }
     ensures { λ r. ⌜ r .0 ≡ cond (eqb root 0) (s .0) root ⌝ }
 {
     if root == 0 {
         return s;
     }
-    Slot(root as u16)
+    Slot(root)
 }
 
 // Frees slot s: it becomes the root, and the freelist goes on from it as `freelist_pointer` says.
 pub fn free(
-    prev: &mut [u16],
-    next: &mut [u16],
+    prev: &mut [u32],
+    next: &mut [u32],
     generation: &mut [u32],
     payload: &mut [u32],
     header: &mut [u32],
     s: Slot,
 )
     requires { ⌜ Stands (now prev) (now next) (now generation) (now payload) (s .0) ⌝ }
-    requires { ⌜ (length (now header) ≡ headerWords) × (getD (now header) 2 0 ≤ capacityLimit) ⌝ }
+    requires { ⌜ length (now header) ≡ headerWords ⌝ }
     ensures { λ _. ⌜ atExit prev next generation payload header
         ≡ vacated (atEntry prev next generation payload header) (s .0)
         (cond (eqb (getD (now (header .entry)) 2 0) 0) (s .0) (getD (now (header .entry)) 2 0)) (withRoot (s .0) (now (header .entry))) ⌝ }
 {
     let f = freelist_pointer(header[ROOT], s);
     vacate(prev, next, generation, payload, s, f);
-    header[ROOT] = s.0 as u32;
+    header[ROOT] = s.0;
 }

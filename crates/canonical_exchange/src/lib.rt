@@ -16,19 +16,7 @@ pub struct Named {
     pub other: Slot,
 }
 
-// Exchanges the words of slots i and t of a column of slots.
-pub fn trade_slots(column: &mut [u16], i: Slot, t: Slot)
-    requires { ⌜ Inside (now column) (i .0) (t .0) ⌝ }
-    ensures { λ _. ⌜ now (column .exit) ≡ exchangeWords (i .0) (t .0) (now (column .entry)) ⌝ }
-{
-    let a = i.0 as usize - 1;
-    let b = t.0 as usize - 1;
-    let kept = column[a];
-    column[a] = column[b];
-    column[b] = kept;
-}
-
-// Exchanges the words of slots i and t of the payload column.
+// Exchanges the words of slots i and t of a column.
 pub fn trade_words(column: &mut [u32], i: Slot, t: Slot)
     requires { ⌜ Inside (now column) (i .0) (t .0) ⌝ }
     ensures { λ _. ⌜ now (column .exit) ≡ exchangeWords (i .0) (t .0) (now (column .entry)) ⌝ }
@@ -41,7 +29,7 @@ pub fn trade_words(column: &mut [u32], i: Slot, t: Slot)
 }
 
 // What the link in slot t names in a column of neighbours, and what who is in slot i names.
-pub fn read_named(column: &[u16], where_from: &[u16], i: Slot, t: Slot) -> Named
+pub fn read_named(column: &[u32], where_from: &[u32], i: Slot, t: Slot) -> Named
     requires { ⌜ Inside (now column) (i .0) (t .0) × Inside (now «where_from») (i .0) (t .0) ⌝ }
     ensures { λ r. ⌜ NamedIn (now (column .entry)) (now («where_from» .entry)) (i .0) (t .0) r ⌝ }
 {
@@ -59,18 +47,18 @@ pub fn read_named(column: &[u16], where_from: &[u16], i: Slot, t: Slot) -> Named
 }
 
 // In one column of neighbours: the words of those whom the two name get the new slots, i and t, then the two slots are exchanged.
-pub fn settle(column: &mut [u16], named: Named, i: Slot, t: Slot)
+pub fn settle(column: &mut [u32], named: Named, i: Slot, t: Slot)
     requires { ⌜ Inside (now column) (i .0) (t .0) × (named .moved .0 ≤ length (now column)) × (named .other .0 ≤ length (now column)) ⌝ }
     ensures { λ _. ⌜ now (column .exit) ≡ exchangeWords (i .0) (t .0) (put (put (now (column .entry)) (named .moved .0) (i .0)) (named .other .0) (t .0)) ⌝ }
 {
     put_at(&mut *column, named.moved, i);
     put_at(&mut *column, named.other, t);
-    trade_slots(&mut *column, i, t);
+    trade_words(&mut *column, i, t);
 }
 
 // In both columns of neighbours: the link in slot t and who is in slot i are renamed where their neighbours name them, and exchanged. What both name is read before
 // a word is written, since the two may be neighbours of each other.
-pub fn exchange_links(prev: &mut [u16], next: &mut [u16], where_from: &[u16], i: Slot, t: Slot)
+pub fn exchange_links(prev: &mut [u32], next: &mut [u32], where_from: &[u32], i: Slot, t: Slot)
     requires { ⌜ LinksInReach (now prev) (now next) (now «where_from») (i .0) (t .0) ⌝ }
     ensures { λ _. ⌜ (now (prev .exit) ≡ renamedWords (now (prev .entry)) (now (next .entry)) (now («where_from» .entry)) (i .0) (t .0))
         × (now (next .exit) ≡ renamedWords (now (next .entry)) (now (prev .entry)) (now («where_from» .entry)) (i .0) (t .0)) ⌝ }
@@ -83,10 +71,10 @@ pub fn exchange_links(prev: &mut [u16], next: &mut [u16], where_from: &[u16], i:
 
 // Exchanges the link in slot t with what is in slot i.
 pub fn exchange(
-    prev: &mut [u16],
-    next: &mut [u16],
+    prev: &mut [u32],
+    next: &mut [u32],
     payload: &mut [u32],
-    where_from: &mut [u16],
+    where_from: &mut [u32],
     i: Slot,
     t: Slot,
 )
@@ -95,6 +83,6 @@ pub fn exchange(
         (columnsAtExit prev next payload «where_from») (i .0) (t .0) ⌝ }
 {
     exchange_links(prev, next, &*where_from, i, t);
-    trade_slots(where_from, i, t);
+    trade_words(where_from, i, t);
     trade_words(payload, i, t);
 }

@@ -13,10 +13,10 @@ use ptr::Slot;
 
 // Puts the link in slot t into the slot after those that are laid out; what is there goes to slot t. Answers the slot of the link's next.
 pub fn lay_link(
-    prev: &mut [u16],
-    next: &mut [u16],
+    prev: &mut [u32],
+    next: &mut [u32],
     payload: &mut [u32],
-    where_from: &mut [u16],
+    where_from: &mut [u32],
     laid: usize,
     t: Slot,
 ) -> Slot
@@ -24,7 +24,7 @@ pub fn lay_link(
     ensures { λ r. ⌜ ((a : Arena) (l : Laying) (first : ℕ) → InChain a l first (t .0) (columnsAtEntry prev next payload «where_from») laid
         → LinkLaid l (t .0) (columnsAtExit prev next payload «where_from») (r .0)) ⌝ }
 {
-    let i = Slot((laid + 1) as u16);
+    let i = Slot((laid + 1) as u32);
     if i.0 == t.0 {
         return Slot(next[laid]);
     }
@@ -42,10 +42,10 @@ pub fn lay_link(
 // Lays out the chain that starts in slot start, link after link along next, after those that are laid out: its first link goes to slot first. Answers how many are
 // laid out then.
 pub fn lay_chain(
-    prev: &mut [u16],
-    next: &mut [u16],
+    prev: &mut [u32],
+    next: &mut [u32],
     payload: &mut [u32],
-    where_from: &mut [u16],
+    where_from: &mut [u32],
     laid: usize,
     first: Slot,
     start: Slot,
@@ -79,14 +79,14 @@ pub fn lay_chain(
 }
 
 // The lowest slot after the first `from` in which somebody is, none if there is none. Somebody is where the column has a word.
-pub fn lowest_link(where_from: &[u16], from: usize) -> Slot
+pub fn lowest_link(where_from: &[u32], from: usize) -> Slot
     requires { ⌜ (from ≤ length (now «where_from»)) × (length (now «where_from») ≤ capacityLimit) ⌝ }
     ensures { λ r. ⌜ ((a : Arena) → Occupied a (now («where_from» .entry)) → r .0 ≡ lowestFrom a (from + 1)) ⌝ }
 {
     let mut s = from;
     while s < where_from.len() {
         if where_from[s] != 0 {
-            return Slot((s + 1) as u16);
+            return Slot((s + 1) as u32);
         }
         s += 1;
     }
@@ -94,7 +94,7 @@ pub fn lowest_link(where_from: &[u16], from: usize) -> Slot
 }
 
 // The start of the chain of the link in slot o: back along prev until there is none. Slot o itself if the chain is closed.
-pub fn start_of(prev: &[u16], o: Slot) -> Slot
+pub fn start_of(prev: &[u32], o: Slot) -> Slot
     requires { ⌜ ((b : Arena) × Rooted b (now prev) (o .0)) ⌝ }
     ensures { λ r. ⌜ ((b : Arena) → Rooted b (now (prev .entry)) (o .0) → r .0 ≡ startOf b (stackLength b) (o .0) (o .0)) ⌝ }
 {
@@ -125,7 +125,7 @@ pub fn larger(x: usize, y: usize) -> usize
 }
 
 // Lays out chain after chain: the lowest link that is not in its place, its chain's start, and from there along next.
-pub fn lay_chains(prev: &mut [u16], next: &mut [u16], payload: &mut [u32], where_from: &mut [u16])
+pub fn lay_chains(prev: &mut [u32], next: &mut [u32], payload: &mut [u32], where_from: &mut [u32])
     requires { ⌜ ((a : Arena) × Ready a (columns prev next payload «where_from»)) ⌝ }
     ensures { λ _. ⌜ ((a : Arena) → Ready a (columnsAtEntry prev next payload «where_from»)
         → AllLaid a (laidOut a) (columnsAtExit prev next payload «where_from»)) ⌝ }
@@ -134,7 +134,7 @@ pub fn lay_chains(prev: &mut [u16], next: &mut [u16], payload: &mut [u32], where
     let mut found = lowest_link(&*where_from, laid);
     while found.0 != 0 {
         let start = start_of(&*prev, found);
-        let first = Slot((laid + 1) as u16);
+        let first = Slot((laid + 1) as u32);
         laid = lay_chain(
             &mut *prev,
             &mut *next,

@@ -6,7 +6,7 @@ use level_three_compress_canonical::chain_arena_compress_canonical;
 use libc::STDOUT_FILENO;
 
 // One slot on a line, its words in decimal with commas between them.
-fn print_slot(new: u64, old: u16, prev: u16, next: u16) {
+fn print_slot(new: u64, old: u32, prev: u32, next: u32) {
     io::print_decimal(STDOUT_FILENO, new);
     io::write_all(STDOUT_FILENO, b",");
     io::print_decimal(STDOUT_FILENO, old as u64);
@@ -18,7 +18,7 @@ fn print_slot(new: u64, old: u16, prev: u16, next: u16) {
 }
 
 // All slots of the columns, in order.
-fn print_slots(prev: &[u16], next: &[u16], where_from: &[u16])
+fn print_slots(prev: &[u32], next: &[u32], where_from: &[u32])
     requires { ⌜ (length (now prev) ≡ length (now «where_from»)) × (length (now next) ≡ length (now «where_from»)) ⌝ }
 {
     let mut s: usize = 0;
@@ -30,12 +30,12 @@ fn print_slots(prev: &[u16], next: &[u16], where_from: &[u16])
 
 // K11: slots 1 and 5 are a chain, slots 2, 3 and 4 are lone, and all links are of generation 5.
 fn main() {
-    let mut prev = [0u16, 0, 0, 0, 1];
-    let mut next = [5u16, 0, 0, 0, 0];
+    let mut prev = [0u32, 0, 0, 0, 1];
+    let mut next = [5u32, 0, 0, 0, 0];
     let mut generation = [5u32; 5];
     let mut payload = [11u32, 12, 13, 14, 15];
     let mut header = [5u32, 5, 0, 5];
-    let mut where_from = [0u16; 5];
+    let mut where_from = [0u32; 5];
     chain_arena_compress_canonical(
         &mut prev,
         &mut next,

@@ -11,8 +11,8 @@ use chain_iterators::ChainPtrAdvancer;
 
 // How many links the rest of a walk answers.
 pub fn links_ahead(
-    prev: &[u16],
-    next: &[u16],
+    prev: &[u32],
+    next: &[u32],
     generation: &[u32],
     payload: &[u32],
     header: &[u32],
@@ -35,8 +35,8 @@ pub fn links_ahead(
 // Whether there is room for fewer links than the rest of a walk answers. It answers no more than it has advances left, so where these have room nothing
 // is walked.
 pub fn too_few(
-    prev: &[u16],
-    next: &[u16],
+    prev: &[u32],
+    next: &[u32],
     generation: &[u32],
     payload: &[u32],
     header: &[u32],

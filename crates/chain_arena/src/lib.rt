@@ -60,7 +60,7 @@ impl Checked {
 }
 
 // Whether the neighbour s of slot x is none, or is a link that names x in the column back.
-pub fn names_back(back: &[u16], generation: &[u32], n: usize, x: usize, s: usize) -> bool
+pub fn names_back(back: &[u32], generation: &[u32], n: usize, x: usize, s: usize) -> bool
     requires { ⌜ (n ≤ length (now back)) × (n ≤ length (now generation)) ⌝ }
     ensures { λ r. ⌜ r ≡ namesBack (now (back .entry)) (now (generation .entry)) n x s ⌝ }
 {
@@ -77,7 +77,7 @@ pub fn names_back(back: &[u16], generation: &[u32], n: usize, x: usize, s: usize
 }
 
 // Whether rule 11 holds at slot x: it is free, or both of its neighbours name it back.
-pub fn neighbours_fine(prev: &[u16], next: &[u16], generation: &[u32], n: usize, x: usize) -> bool
+pub fn neighbours_fine(prev: &[u32], next: &[u32], generation: &[u32], n: usize, x: usize) -> bool
     requires { ⌜ (n ≤ length (now prev)) × (n ≤ length (now next)) × (n ≤ length (now generation)) × (0 < x) × (x ≤ n) ⌝ }
     ensures { λ r. ⌜ r ≡ neighboursFine (now (prev .entry)) (now (next .entry)) (now (generation .entry)) n x ⌝ }
 {
@@ -91,7 +91,7 @@ pub fn neighbours_fine(prev: &[u16], next: &[u16], generation: &[u32], n: usize,
 }
 
 // The lowest of the first n slots at which rule 11 fails, or 0 where it fails at none.
-pub fn interlinks(prev: &[u16], next: &[u16], generation: &[u32], n: usize) -> usize
+pub fn interlinks(prev: &[u32], next: &[u32], generation: &[u32], n: usize) -> usize
     requires { ⌜ (n ≤ length (now prev)) × (n ≤ length (now next)) × (n ≤ length (now generation)) ⌝ }
     ensures { λ r. ⌜ r ≡ firstOr 0 (brokenSlots (now (prev .entry)) (now (next .entry)) (now (generation .entry)) n) ⌝ }
 {
@@ -106,7 +106,7 @@ pub fn interlinks(prev: &[u16], next: &[u16], generation: &[u32], n: usize) -> u
 }
 
 // On which side rule 11 fails at slot x, where it does: prev if that does not name it back, else next.
-pub fn broken_side(prev: &[u16], next: &[u16], generation: &[u32], n: usize, x: usize) -> u32
+pub fn broken_side(prev: &[u32], next: &[u32], generation: &[u32], n: usize, x: usize) -> u32
     requires { ⌜ (n ≤ length (now prev)) × (n ≤ length (now next)) × (n ≤ length (now generation)) × (0 < x) × (x ≤ n) ⌝ }
     ensures { λ r. ⌜ r ≡ sideAt (now (prev .entry)) (now (next .entry)) (now (generation .entry)) n x ⌝ }
 {
@@ -118,8 +118,8 @@ pub fn broken_side(prev: &[u16], next: &[u16], generation: &[u32], n: usize, x: 
 
 // The check of a lent arena.
 pub fn check(
-    prev: &[u16],
-    next: &[u16],
+    prev: &[u32],
+    next: &[u32],
     generation: &[u32],
     payload: &[u32],
     header: &[u32],

@@ -6,8 +6,7 @@ ghost use Rattle.definitions.specs.Arena.{capacityLimit, largestGeneration};
 ghost use Rattle.definitions.specs.Lent.{lent, atEntry, atExit};
 ghost use Rattle.definitions.specs.Check.{WellFormed};
 ghost use Rattle.definitions.specs.Run.{commandWords, commandAt};
-ghost use Rattle.chain_traits.specs.Read.{pointerOf};
-ghost use Rattle.chain_commands.specs.Commands.{widePointer, narrowed, commandOf, Applied};
+ghost use Rattle.chain_commands.specs.Commands.{commandOf, Applied};
 use chain_edits::break_side;
 use chain_edits::connect;
 use chain_edits::exchange_next;
@@ -20,37 +19,11 @@ use ptr::Slot;
 // The number of words of a command.
 pub const COMMAND_WORDS: usize = 6;
 
-// A pointer as a command has it: any word may stand for its slot.
-pub struct WidePtr {
-    pub slot: u32,
-    pub generation: Gen,
-}
-
-impl WidePtr {
-    // The pointer in 16 bits. Slot 0 stands for one that does not fit: both are stale.
-    pub fn narrow(self) -> Ptr
-        ensures { λ r. ⌜ pointerOf r ≡ narrowed (widePointer self) ⌝ }
-    {
-        let slot = self.slot;
-        let generation = self.generation;
-        if 65535 < slot {
-            return Ptr {
-                inx: Slot(0),
-                generation: generation,
-            };
-        }
-        Ptr {
-            inx: Slot(slot as u16),
-            generation: generation,
-        }
-    }
-}
-
 // A command: what to do, by its code, two pointers and a payload (REFERENCE, Run).
 pub struct Command {
     pub code: u32,
-    pub first: WidePtr,
-    pub second: WidePtr,
+    pub first: Ptr,
+    pub second: Ptr,
     pub payload: u32,
 }
 
@@ -62,12 +35,12 @@ pub fn command_at(commands: &[u32], i: usize) -> Command
     let w = COMMAND_WORDS * i;
     Command {
         code: commands[w],
-        first: WidePtr {
-            slot: commands[w + 1],
+        first: Ptr {
+            inx: Slot(commands[w + 1]),
             generation: Gen(commands[w + 2]),
         },
-        second: WidePtr {
-            slot: commands[w + 3],
+        second: Ptr {
+            inx: Slot(commands[w + 3]),
             generation: Gen(commands[w + 4]),
         },
         payload: commands[w + 5],
@@ -76,8 +49,8 @@ pub fn command_at(commands: &[u32], i: usize) -> Command
 
 // One command. Answers its number: 0 or 100 where it was done, 12, 13, 17 or 18 where it was refused, 16 for an unknown code.
 pub fn apply(
-    prev: &mut [u16],
-    next: &mut [u16],
+    prev: &mut [u32],
+    next: &mut [u32],
     generation: &mut [u32],
     payload: &mut [u32],
     header: &mut [u32],
@@ -88,12 +61,10 @@ pub fn apply(
         (atEntry prev next generation payload header) (commandOf c) r
         (atExit prev next generation payload header) ⌝ }
 {
-    let first = c.first;
-    let second = c.second;
+    let p = c.first;
+    let q = c.second;
     let code = c.code;
     let x = c.payload;
-    let p = first.narrow();
-    let q = second.narrow();
     // By size, since a jump through a table of all codes costs more than the edits do.
     if code < 2 {
         match code {

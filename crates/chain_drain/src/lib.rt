@@ -26,8 +26,8 @@ pub enum Drained {
 
 // Removes every link of p's chain, in the order of a walk from p, and reports each as it is when its turn comes (REFERENCE, Drain).
 pub fn drain(
-    prev: &mut [u16],
-    next: &mut [u16],
+    prev: &mut [u32],
+    next: &mut [u32],
     generation: &mut [u32],
     payload: &mut [u32],
     header: &mut [u32],

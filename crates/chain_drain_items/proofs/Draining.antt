@@ -12,7 +12,6 @@ use Rattle.definitions.specs.Columns.{written}
 use Rattle.definitions.specs.Arena.{Arena, stackLength, isLink}
 use Rattle.definitions.specs.Remove.{removed, removedAll, drainItems, overflowItem}
 use Rattle.definitions.proofs.Count.{in-here}
-use Rattle.definitions.proofs.Slots.{allocated-within}
 use Rattle.definitions.proofs.Tests.{by-test}
 use Rattle.kept.proofs.AsLong.{AsLong, as-long-itself, as-long-too}
 use Rattle.drains.specs.Drainable.{Drainable}
@@ -99,9 +98,6 @@ module _ {limit top : ℕ} {a₀ : Arena} {old : List ℕ} {items : ℕ} {a : Ar
 
     pub next-link : isLink a (getD new (5 * item) 0) ≡ true
     next-link = can .links s (in-here s others)
-
-    pub next-small : getD new (5 * item) 0 ≤ limit
-    next-small = let ok = d .rest .arena in omega (arith, allocated-within (a .generation) (stackLength a) s next-link)
 
     pub next-room : 5 * item + 5 ≤ length new
     next-room = let room = d .room in omega arith

@@ -23,8 +23,8 @@ use ptr::Slot;
 
 // Whether `room` words are fewer than five for each link of the rest of a walk.
 pub fn too_short(
-    prev: &[u16],
-    next: &[u16],
+    prev: &[u32],
+    next: &[u32],
     generation: &[u32],
     payload: &[u32],
     header: &[u32],
@@ -39,8 +39,8 @@ pub fn too_short(
 
 // Writes the slots of the rest of a walk into the report, each as the first word of its item. Answers how many.
 pub fn list_slots(
-    prev: &[u16],
-    next: &[u16],
+    prev: &[u32],
+    next: &[u32],
     generation: &[u32],
     payload: &[u32],
     header: &[u32],
@@ -66,8 +66,8 @@ pub fn list_slots(
 
 // Writes the item that the link at slot s becomes into the report, from word i on.
 pub fn report_link(
-    prev: &[u16],
-    next: &[u16],
+    prev: &[u32],
+    next: &[u32],
     generation: &[u32],
     payload: &[u32],
     s: Slot,
@@ -79,18 +79,18 @@ pub fn report_link(
     ensures { λ _. ⌜ now (report .exit)
         ≡ overwritten i (itemWords (arena (now (prev .entry)) (now (next .entry)) (now (generation .entry)) (now (payload .entry)) []) (s .0)) (now (report .entry)) ⌝ }
 {
-    report[i] = s.0 as u32;
+    report[i] = s.0;
     report[i + 1] = word_at(generation, s);
-    report[i + 2] = slot_at(prev, s).0 as u32;
-    report[i + 3] = slot_at(next, s).0 as u32;
+    report[i + 2] = slot_at(prev, s).0;
+    report[i + 3] = slot_at(next, s).0;
     report[i + 4] = word_at(payload, s);
 }
 
 // Drains the link whose slot is word i of the report: its words, as they are now, follow there, and it is removed. Answers whether the generation
 // overflowed.
 pub fn drain_item(
-    prev: &mut [u16],
-    next: &mut [u16],
+    prev: &mut [u32],
+    next: &mut [u32],
     generation: &mut [u32],
     payload: &mut [u32],
     header: &mut [u32],
@@ -98,12 +98,12 @@ pub fn drain_item(
     i: usize,
 ) -> bool
     requires { ⌜ Removable (lent prev next generation payload header) (getD (now report) i 0) ⌝ }
-    requires { ⌜ (getD (now report) i 0 ≤ capacityLimit) × (i + 5 ≤ length (now report)) ⌝ }
+    requires { ⌜ i + 5 ≤ length (now report) ⌝ }
     ensures { λ r. ⌜ ItemDrained largestGeneration
         (atEntry prev next generation payload header) (getD (now (report .entry)) i 0) i (now (report .entry))
         (atExit prev next generation payload header) (now (report .exit)) r ⌝ }
 {
-    let s = Slot(report[i] as u16);
+    let s = Slot(report[i]);
     report_link(&*prev, &*next, &*generation, &*payload, s, report, i);
     take_out(prev, next, generation, payload, header, s)
 }
@@ -121,8 +121,8 @@ pub fn overflowed_item(known: u32, overflow: bool, item: u32) -> u32
 // Drains the links whose slots are listed in the report, so many items, one after the other. Answers which one, counted from 1, made the generation
 // overflow; 0 for none.
 pub fn drain_items(
-    prev: &mut [u16],
-    next: &mut [u16],
+    prev: &mut [u32],
+    next: &mut [u32],
     generation: &mut [u32],
     payload: &mut [u32],
     header: &mut [u32],

@@ -7,9 +7,9 @@ ghost use Rattle.definitions.specs.Arena.{capacityLimit};
 ghost use Rattle.definitions.specs.Clock.{dueCount, dueEvents};
 ghost use Rattle.definitions.specs.Columns.{written};
 ghost use Rattle.definitions.specs.Lent.{lent, atEntry};
-ghost use Rattle.definitions.proofs.Shaped.{Shaped};
+ghost use Rattle.definitions.specs.Check.{WellFormed};
 ghost use Rattle.chain_ahead.specs.Ahead.{slotsAhead};
-ghost use Rattle.chain_iterators.specs.Walk.{walkOf};
+ghost use Rattle.chain_iterators.specs.Walk.{walkOf, OnChain};
 ghost use Rattle.chain_traits.specs.Read.{pointerOf};
 ghost use Rattle.chain_due.specs.Due.{IsWindow, isDue, dueAhead, dueReply};
 use chain_ahead::too_few;
@@ -44,26 +44,27 @@ pub fn is_due(payload: &[u32], window: Window, s: Slot) -> bool
 
 // How many links of the rest of a walk are due.
 pub fn due_ahead(
-    prev: &[u16],
-    next: &[u16],
+    prev: &[u32],
+    next: &[u32],
     generation: &[u32],
     payload: &[u32],
     header: &[u32],
     mut walk: ChainPtrAdvancer,
     window: Window,
 ) -> u32
-    requires { ⌜ Shaped capacityLimit (lent prev next generation payload header) ⌝ }
+    requires { ⌜ WellFormed capacityLimit (lent prev next generation payload header) ⌝ }
     requires { ⌜ IsWindow window ⌝ }
+    requires { ⌜ OnChain (lent prev next generation payload header) (walk .ptr) ⌝ }
     ensures { λ r. ⌜ r ≡ length (dueAhead (atEntry prev next generation payload header) window (walkOf walk)) ⌝ }
 {
     let mut count: u32 = 0;
     loop {
-        let step = walk.advance(prev, next, generation, payload, header);
+        let step = walk.advance_on_chain(prev, next, generation, payload, header);
         if step.slot == 0 {
             return count;
         }
         walk = step.state;
-        if is_due(payload, window, Slot(step.slot as u16)) {
+        if is_due(payload, window, Slot(step.slot)) {
             count += 1;
         }
     }
@@ -71,30 +72,31 @@ pub fn due_ahead(
 
 // Writes the slots of the links that are due into the report, in the order of the walk. Answers how many.
 pub fn list_due(
-    prev: &[u16],
-    next: &[u16],
+    prev: &[u32],
+    next: &[u32],
     generation: &[u32],
     payload: &[u32],
     header: &[u32],
     mut walk: ChainPtrAdvancer,
     window: Window,
-    report: &mut [u16],
+    report: &mut [u32],
 ) -> u32
-    requires { ⌜ Shaped capacityLimit (lent prev next generation payload header) ⌝ }
+    requires { ⌜ WellFormed capacityLimit (lent prev next generation payload header) ⌝ }
     requires { ⌜ IsWindow window ⌝ }
     requires { ⌜ length (slotsAhead (lent prev next generation payload header) (walkOf walk)) ≤ length (now report) ⌝ }
+    requires { ⌜ OnChain (lent prev next generation payload header) (walk .ptr) ⌝ }
     ensures { λ r. ⌜ (r ≡ length (dueAhead (atEntry prev next generation payload header) window (walkOf walk)))
         × (now (report .exit) ≡ written (dueAhead (atEntry prev next generation payload header) window (walkOf walk)) (now (report .entry))) ⌝ }
 {
     let mut reported: u32 = 0;
     loop {
-        let step = walk.advance(prev, next, generation, payload, header);
+        let step = walk.advance_on_chain(prev, next, generation, payload, header);
         if step.slot == 0 {
             return reported;
         }
         walk = step.state;
-        if is_due(payload, window, Slot(step.slot as u16)) {
-            report[reported as usize] = step.slot as u16;
+        if is_due(payload, window, Slot(step.slot)) {
+            report[reported as usize] = step.slot;
             reported += 1;
         }
     }
@@ -102,15 +104,15 @@ pub fn list_due(
 
 // How many links of p's chain are due (REFERENCE, Frame clock).
 pub fn due_count(
-    prev: &[u16],
-    next: &[u16],
+    prev: &[u32],
+    next: &[u32],
     generation: &[u32],
     payload: &[u32],
     header: &[u32],
     p: Ptr,
     window: Window,
 ) -> Due
-    requires { ⌜ Shaped capacityLimit (lent prev next generation payload header) ⌝ }
+    requires { ⌜ WellFormed capacityLimit (lent prev next generation payload header) ⌝ }
     ensures { λ r. ⌜ dueReply r (atEntry prev next generation payload header) []
         ≡ dueCount (atEntry prev next generation payload header) (pointerOf p) (window .from .0) (window .to .0) [] ⌝ }
 {
@@ -125,16 +127,16 @@ pub fn due_count(
 
 // Writes the slots of the links of p's chain that are due into the report, in the order of a walk from p (REFERENCE, Frame clock).
 pub fn due_events(
-    prev: &[u16],
-    next: &[u16],
+    prev: &[u32],
+    next: &[u32],
     generation: &[u32],
     payload: &[u32],
     header: &[u32],
     p: Ptr,
     window: Window,
-    report: &mut [u16],
+    report: &mut [u32],
 ) -> Due
-    requires { ⌜ Shaped capacityLimit (lent prev next generation payload header) ⌝ }
+    requires { ⌜ WellFormed capacityLimit (lent prev next generation payload header) ⌝ }
     ensures { λ r. ⌜ dueReply r (atEntry prev next generation payload header) (now (report .exit))
         ≡ dueEvents (atEntry prev next generation payload header) (pointerOf p) (window .from .0) (window .to .0) (now (report .entry)) ⌝ }
 {

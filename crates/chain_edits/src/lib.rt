@@ -42,8 +42,8 @@ impl Edited {
 
 // Joins the end p_prev to the start p_next.
 pub fn connect(
-    prev: &mut [u16],
-    next: &mut [u16],
+    prev: &mut [u32],
+    next: &mut [u32],
     generation: &[u32],
     payload: &[u32],
     header: &[u32],
@@ -86,8 +86,8 @@ fn either(one: bool, x: Slot, y: Slot) -> Slot
 // Takes the interlink between p and its next away if after, else the one between p and its prev. Both sides are one operation, in which no branch asks for the
 // side: a run of mixed edits cannot foresee it.
 pub fn break_side(
-    prev: &mut [u16],
-    next: &mut [u16],
+    prev: &mut [u32],
+    next: &mut [u32],
     generation: &[u32],
     payload: &[u32],
     header: &[u32],
@@ -115,8 +115,8 @@ pub fn break_side(
 
 // Takes the interlink between p and its prev away.
 pub fn break_prev(
-    prev: &mut [u16],
-    next: &mut [u16],
+    prev: &mut [u32],
+    next: &mut [u32],
     generation: &[u32],
     payload: &[u32],
     header: &[u32],
@@ -131,8 +131,8 @@ pub fn break_prev(
 
 // Takes the interlink between p and its next away.
 pub fn break_next(
-    prev: &mut [u16],
-    next: &mut [u16],
+    prev: &mut [u32],
+    next: &mut [u32],
     generation: &[u32],
     payload: &[u32],
     header: &[u32],
@@ -146,7 +146,7 @@ pub fn break_next(
 }
 
 // Writes v at slot s of a link column, then w at slot t.
-pub fn set_two(column: &mut [u16], s: Slot, v: Slot, t: Slot, w: Slot)
+pub fn set_two(column: &mut [u32], s: Slot, v: Slot, t: Slot, w: Slot)
     requires { ⌜ (0 < s .0) × (s .0 ≤ length (now column)) × (0 < t .0) × (t .0 ≤ length (now column)) ⌝ }
     ensures { λ _. ⌜ now (column .exit) ≡ put (put (now (column .entry)) (s .0) (v .0)) (t .0) (w .0) ⌝ }
 {
@@ -156,8 +156,8 @@ pub fn set_two(column: &mut [u16], s: Slot, v: Slot, t: Slot, w: Slot)
 
 // Gives each of p0 and p1 the other's next.
 pub fn exchange_next(
-    prev: &mut [u16],
-    next: &mut [u16],
+    prev: &mut [u32],
+    next: &mut [u32],
     generation: &[u32],
     payload: &[u32],
     header: &[u32],

@@ -45,8 +45,7 @@ use Rattle.kept.proofs.PutIn.{u-within, v-within, fits-if-placed, gap-of}
 -- the root and the slot after the stack fit a slot
 pub roomy : {a : Arena} → WellFormed capacityLimit a → Roomy (a .header) (capacity a)
 roomy {a} ok =
-    let rooted = root-within a (ok .freelist .0) (ok .freelist .1) in
-    record { header = ok .header; rooted = omega (arith, ok .within, ok .small); stack = ok .within; small = ok .small }
+    record { header = ok .header; stack = ok .within; small = ok .small }
 
 -- ---- the slot that was chosen
 
@@ -127,7 +126,6 @@ insertable {a} k t u v ok chosen some e =
         header = ok .header;
         stack = omega (arith, ok .within, ok .small);
         links = omega (arith, counts .links-within, ok .small);
-        small = omega (arith, ok .within, ok .small);
         rooted = omega (arith, ok .within, ok .next-length);
       };
       slot = new-slot a chosen some;

@@ -48,8 +48,8 @@ impl Inserted {
 
 // Inserts a link of payload x where the kind says.
 pub fn insert(
-    prev: &mut [u16],
-    next: &mut [u16],
+    prev: &mut [u32],
+    next: &mut [u32],
     generation: &mut [u32],
     payload: &mut [u32],
     header: &mut [u32],
@@ -79,8 +79,8 @@ pub fn insert(
 
 // Inserts a link of payload x where the kind of the code says, with the links at p and q if it names them.
 pub fn insert_coded(
-    prev: &mut [u16],
-    next: &mut [u16],
+    prev: &mut [u32],
+    next: &mut [u32],
     generation: &mut [u32],
     payload: &mut [u32],
     header: &mut [u32],

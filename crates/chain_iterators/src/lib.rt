@@ -10,7 +10,7 @@ ghost use Rattle.definitions.specs.Lent.{lent, atEntry};
 ghost use Rattle.definitions.specs.Walk.{walk, walkStart, onward, step};
 ghost use Rattle.definitions.proofs.Shaped.{Shaped};
 ghost use Rattle.chain_traits.specs.Read.{pointerOf};
-ghost use Rattle.chain_iterators.specs.Walk.{walkOf, steppedOf, startReply};
+ghost use Rattle.chain_iterators.specs.Walk.{walkOf, steppedOf, OnChain, startReply};
 use chain_traits::stale;
 use columns::slot_at;
 use columns::word_at;
@@ -46,7 +46,7 @@ pub enum Started {
 
 // Whether s is a link where the stack is n slots long.
 pub fn is_link(generation: &[u32], n: usize, s: u32) -> bool
-    requires { ⌜ (n ≤ length (now generation)) × (n ≤ capacityLimit) ⌝ }
+    requires { ⌜ n ≤ length (now generation) ⌝ }
     ensures { λ r. ⌜ r ≡ allocated (now (generation .entry)) n s ⌝ }
 {
     if s == 0 {
@@ -55,24 +55,24 @@ pub fn is_link(generation: &[u32], n: usize, s: u32) -> bool
     if n < s as usize {
         return false;
     }
-    word_at(generation, Slot(s as u16)) != 0
+    word_at(generation, Slot(s)) != 0
 }
 
 // The prev of the link s; 0 where s is no link.
-pub fn prev_of(prev: &[u16], generation: &[u32], n: usize, s: u32) -> u32
-    requires { ⌜ (n ≤ length (now prev)) × (n ≤ length (now generation)) × (n ≤ capacityLimit) ⌝ }
+pub fn prev_of(prev: &[u32], generation: &[u32], n: usize, s: u32) -> u32
+    requires { ⌜ (n ≤ length (now prev)) × (n ≤ length (now generation)) ⌝ }
     ensures { λ r. ⌜ r ≡ cond (allocated (now (generation .entry)) n s) (at (now (prev .entry)) s) 0 ⌝ }
 {
     if !is_link(generation, n, s) {
         return 0;
     }
-    slot_at(prev, Slot(s as u16)).0 as u32
+    slot_at(prev, Slot(s)).0
 }
 
 // Starts a walk at p, with as many advances as there are links.
 pub fn advancer_chain(
-    prev: &[u16],
-    next: &[u16],
+    prev: &[u32],
+    next: &[u32],
     generation: &[u32],
     payload: &[u32],
     header: &[u32],
@@ -86,8 +86,8 @@ pub fn advancer_chain(
         return Started::Stale;
     }
     Started::At(ChainPtrAdvancer {
-        init: p.inx.0 as u32,
-        ptr: p.inx.0 as u32,
+        init: p.inx.0,
+        ptr: p.inx.0,
         switch: 0,
         max_advances: header[LINK_COUNT],
     })
@@ -111,8 +111,8 @@ impl ChainPtrAdvancer {
     // start of a closed one to no position.
     pub fn onward(
         self,
-        prev: &[u16],
-        next: &[u16],
+        prev: &[u32],
+        next: &[u32],
         generation: &[u32],
         payload: &[u32],
         header: &[u32],
@@ -121,11 +121,11 @@ impl ChainPtrAdvancer {
         requires { ⌜ (isLink (lent prev next generation payload header) (self .ptr) ≡ true) × (0 < self .«max_advances») ⌝ }
         ensures { λ r. ⌜ walkOf r ≡ onward (atEntry prev next generation payload header) (walkOf self) ⌝ }
     {
-        let here = Slot(self.ptr as u16);
+        let here = Slot(self.ptr);
         if self.switch != 0 {
-            return self.moved(slot_at(prev, here).0 as u32, self.switch);
+            return self.moved(slot_at(prev, here).0, self.switch);
         }
-        let ahead = slot_at(next, here).0 as u32;
+        let ahead = slot_at(next, here).0;
         if ahead == 0 {
             return self.moved(
                 prev_of(prev, generation, header[STACK_LENGTH] as usize, self.init),
@@ -141,8 +141,8 @@ impl ChainPtrAdvancer {
     // One step: the link at the position, and the state that goes on from there.
     pub fn advance(
         self,
-        prev: &[u16],
-        next: &[u16],
+        prev: &[u32],
+        next: &[u32],
         generation: &[u32],
         payload: &[u32],
         header: &[u32],
@@ -166,7 +166,44 @@ impl ChainPtrAdvancer {
         }
         Advanced {
             slot: self.ptr,
-            generation: word_at(generation, Slot(self.ptr as u16)),
+            generation: word_at(generation, Slot(self.ptr)),
+            state: self.onward(prev, next, generation, payload, header),
+        }
+    }
+
+    // The same step of a walk that is on a chain, at one of its links or over: it need not ask whether the position is a link, and who does not look at the
+    // generation that it answers reads none.
+    pub fn advance_on_chain(
+        self,
+        prev: &[u32],
+        next: &[u32],
+        generation: &[u32],
+        payload: &[u32],
+        header: &[u32],
+    ) -> Advanced
+        requires { ⌜ Shaped capacityLimit (lent prev next generation payload header) ⌝ }
+        requires { ⌜ OnChain (lent prev next generation payload header) (self .ptr) ⌝ }
+        ensures { λ r. ⌜ steppedOf r ≡ step (atEntry prev next generation payload header) (walkOf self) ⌝ }
+    {
+        let left = self.max_advances;
+        let here = self.ptr;
+        if left == 0 {
+            return Advanced {
+                slot: 0,
+                generation: 0,
+                state: self,
+            };
+        }
+        if here == 0 {
+            return Advanced {
+                slot: 0,
+                generation: 0,
+                state: self.moved(0, self.switch),
+            };
+        }
+        Advanced {
+            slot: here,
+            generation: word_at(generation, Slot(here)),
             state: self.onward(prev, next, generation, payload, header),
         }
     }

@@ -15,8 +15,8 @@ use ptr::Ptr;
 
 // Removes the link at p: joins its neighbours and vacates its slot. Answers the link as it was.
 pub fn remove(
-    prev: &mut [u16],
-    next: &mut [u16],
+    prev: &mut [u32],
+    next: &mut [u32],
     generation: &mut [u32],
     payload: &mut [u32],
     header: &mut [u32],

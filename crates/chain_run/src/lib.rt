@@ -13,8 +13,8 @@ use chain_commands::command_at;
 
 // Applies the commands one after the other, and writes an answer for each.
 pub fn apply_all(
-    prev: &mut [u16],
-    next: &mut [u16],
+    prev: &mut [u32],
+    next: &mut [u32],
     generation: &mut [u32],
     payload: &mut [u32],
     header: &mut [u32],
@@ -69,8 +69,8 @@ impl Ran {
 
 // Runs the commands, if they are whole and there is an answer word for each.
 pub fn run(
-    prev: &mut [u16],
-    next: &mut [u16],
+    prev: &mut [u32],
+    next: &mut [u32],
     generation: &mut [u32],
     payload: &mut [u32],
     header: &mut [u32],

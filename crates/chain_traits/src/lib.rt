@@ -68,8 +68,8 @@ pub fn stale(generation: &[u32], n: usize, p: Ptr) -> bool
 
 // The link at p, its neighbours as pointers.
 pub fn get_link(
-    prev: &[u16],
-    next: &[u16],
+    prev: &[u32],
+    next: &[u32],
     generation: &[u32],
     payload: &[u32],
     header: &[u32],
@@ -91,8 +91,8 @@ pub fn get_link(
 
 // The link at p, its neighbours as slots.
 pub fn get_link_no_gen(
-    prev: &[u16],
-    next: &[u16],
+    prev: &[u32],
+    next: &[u32],
     generation: &[u32],
     payload: &[u32],
     header: &[u32],
@@ -114,8 +114,8 @@ pub fn get_link_no_gen(
 
 // Whether the next of p_prev is p_next; no where either is stale.
 pub fn are_neighbors(
-    prev: &[u16],
-    next: &[u16],
+    prev: &[u32],
+    next: &[u32],
     generation: &[u32],
     payload: &[u32],
     header: &[u32],

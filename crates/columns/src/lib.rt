@@ -6,7 +6,7 @@ ghost use Rattle.definitions.specs.Columns.{at, put};
 use ptr::Slot;
 
 // The slot that the column names at slot s.
-pub fn slot_at(column: &[u16], s: Slot) -> Slot
+pub fn slot_at(column: &[u32], s: Slot) -> Slot
     requires { ⌜ (0 < s .0) × (s .0 ≤ length (now column)) ⌝ }
     ensures { λ r. ⌜ r .0 ≡ at (now (column .entry)) (s .0) ⌝ }
 {
@@ -22,7 +22,7 @@ pub fn word_at(column: &[u32], s: Slot) -> u32
 }
 
 // Writes v at slot s of a link column.
-pub fn set_at(column: &mut [u16], s: Slot, v: Slot)
+pub fn set_at(column: &mut [u32], s: Slot, v: Slot)
     requires { ⌜ (0 < s .0) × (s .0 ≤ length (now column)) ⌝ }
     ensures { λ _. ⌜ now (column .exit) ≡ put (now (column .entry)) (s .0) (v .0) ⌝ }
 {
@@ -30,7 +30,7 @@ pub fn set_at(column: &mut [u16], s: Slot, v: Slot)
 }
 
 // Writes v at slot s of a link column, if there is such a slot: 0 is none.
-pub fn put_at(column: &mut [u16], s: Slot, v: Slot)
+pub fn put_at(column: &mut [u32], s: Slot, v: Slot)
     requires { ⌜ s .0 ≤ length (now column) ⌝ }
     ensures { λ _. ⌜ now (column .exit) ≡ put (now (column .entry)) (s .0) (v .0) ⌝ }
 {

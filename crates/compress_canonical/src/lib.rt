@@ -45,18 +45,18 @@ impl Compressed {
 }
 
 // Who is at place s at the start: the link in its own slot, nobody where the slot is free.
-fn occupant(generation: u32, s: usize) -> u16
+fn occupant(generation: u32, s: usize) -> u32
     requires { ⌜ s < capacityLimit ⌝ }
     ensures { λ r. ⌜ r ≡ cond (eqb generation 0) 0 (s + 1) ⌝ }
 {
     if generation == 0 {
         return 0;
     }
-    (s + 1) as u16
+    (s + 1) as u32
 }
 
 // Puts each link's own slot into the where-from column, and 0 for a free slot. From now on the column says who is in a slot, and whether anybody is.
-fn mark_links(where_from: &mut [u16], generation: &[u32])
+fn mark_links(where_from: &mut [u32], generation: &[u32])
     requires { ⌜ (length (now «where_from») ≡ length (now generation)) × (length (now generation) ≤ capacityLimit) ⌝ }
     ensures { λ _. ⌜ Marked (now (generation .entry)) (length (now (generation .entry))) (now («where_from» .exit)) ⌝ }
 {
@@ -69,12 +69,12 @@ fn mark_links(where_from: &mut [u16], generation: &[u32])
 
 // Lays out the links of an arena: they stand in slots 1, 2, and so on, one chain behind the other, and the where-from column says who is in a slot.
 fn lay_out(
-    prev: &mut [u16],
-    next: &mut [u16],
+    prev: &mut [u32],
+    next: &mut [u32],
     generation: &[u32],
     payload: &mut [u32],
     header: &[u32],
-    where_from: &mut [u16],
+    where_from: &mut [u32],
 )
     requires { ⌜ Stacked (lent prev next generation payload header) (now «where_from») ⌝ }
     ensures { λ _. ⌜ LaidIn (atEntry prev next generation payload header) (now («where_from» .entry))
@@ -92,8 +92,8 @@ fn lay_out(
 
 // Keeps as many slots as there are links, in the current generation, and pops the others. No slot is free then, and the root goes.
 fn shrink(
-    prev: &mut [u16],
-    next: &mut [u16],
+    prev: &mut [u32],
+    next: &mut [u32],
     generation: &mut [u32],
     payload: &mut [u32],
     header: &mut [u32],
@@ -113,13 +113,13 @@ fn shrink(
 
 // Canonical compression of an arena that passed the check: one chain behind the other, each along next (REFERENCE, Canonical compression).
 pub fn compress_canonical(
-    prev: &mut [u16],
-    next: &mut [u16],
+    prev: &mut [u32],
+    next: &mut [u32],
     generation: &mut [u32],
     payload: &mut [u32],
     header: &mut [u32],
     reset: bool,
-    where_from: &mut [u16],
+    where_from: &mut [u32],
 ) -> Compressed
     requires { ⌜ verdict capacityLimit (lent prev next generation payload header) ≡ 0 ⌝ }
     ensures { λ r. ⌜ reply (compressedNumber r) [] (atExit prev next generation payload header) (now («where_from» .exit))

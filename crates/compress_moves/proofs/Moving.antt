@@ -15,7 +15,7 @@ use Rattle.definitions.proofs.Slots.{allocated-within, length-slots, links-and-
 use Rattle.definitions.proofs.Count.{In, in-here, in-there, keep-yes, keep-no, only-links}
 use Rattle.definitions.proofs.Parts.{at-one, at-cons, in-at}
 use Rattle.definitions.proofs.Written.{written-none, written-more, written-behind, written-parts}
-use Rattle.compress_moves.specs.Moves.{Named, newName, carried, Full, Movable}
+use Rattle.compress_moves.specs.Moves.{newName, carried, Full, Movable}
 use Rattle.compress_moves.proofs.Numbers.{map-end}
 
 -- ---- links in rising order are each at or past their own place
@@ -112,14 +112,11 @@ module _ {ps ns vs numbers report : List ℕ} {n links : ℕ} (can : Movable ps 
     payload-here : at vs′ s ≡ at vs s
     payload-here = ap (λ (l : List ℕ). at l s) (r .payloads) ∙ moved-reads _ vs w k left s past
 
-    named : (x : ℕ) → x ≤ n → Named numbers x
-    named x l = (omega (arith, can .numbers-within), can .small x l)
+    pub moving-prev : at ps′ s ≤ length numbers
+    moving-prev = rw prev-here (omega (arith, can .prev s link, can .numbers-within))
 
-    pub moving-prev : Named numbers (at ps′ s)
-    moving-prev = rw prev-here (named (at ps s) (can .prev s link))
-
-    pub moving-next : Named numbers (at ns′ s)
-    moving-next = rw next-here (named (at ns s) (can .next s link))
+    pub moving-next : at ns′ s ≤ length numbers
+    moving-next = rw next-here (omega (arith, can .next s link, can .numbers-within))
 
     fits : (old : List ℕ) → n ≤ length old → length w ≤ length old
     fits old l = omega (arith, links-and-free numbers n)

@@ -5,7 +5,7 @@ use mathlib.Core.Bool.{Bool, true}
 use mathlib.Core.List.{List, map}
 use lib.ListN.{length, getD}
 use Rattle.definitions.specs.Columns.{at, slotsFrom, written}
-use Rattle.definitions.specs.Arena.{Arena, withCurrent, allocated, linkSlots}
+use Rattle.definitions.specs.Arena.{Arena, capacityLimit, withCurrent, allocated, linkSlots}
 use Rattle.definitions.specs.Compress.{compressGeneration, compressNumber, place, movesOf}
 
 -- the generation is renewed: the answer's number, and the header that is left
@@ -22,10 +22,6 @@ numbered gs n = written (map (place (linkSlots gs n)) (slotsFrom 1 n)) gs
 pub record Numbered (a : Arena) (n g : ℕ) (old numbers report : List ℕ) : Type 0 where
   pub named : numbers ≡ numbered (a .generation) n
   pub reported : report ≡ written (movesOf a g 1 (linkSlots (a .generation) n)) old
-
--- slot s, or none, has a new name in a link column
-abbrev pub Named : List ℕ → ℕ → Type 0
-Named numbers s = (s ≤ length numbers) × (at numbers s ≤ 65535)
 
 -- the new name of the neighbour of slot o
 abbrev pub newName : List ℕ → List ℕ → ℕ → ℕ
@@ -45,7 +41,6 @@ pub record Movable (ps ns vs numbers report : List ℕ) (n links : ℕ) : Type 0
   pub next-within : n ≤ length ns
   pub payload-within : n ≤ length vs
   pub numbers-within : n ≤ length numbers
-  pub small : (s : ℕ) → s ≤ n → at numbers s ≤ 65535
   pub prev : (o : ℕ) → allocated numbers n o ≡ true → at ps o ≤ n
   pub next : (o : ℕ) → allocated numbers n o ≡ true → at ns o ≤ n
   pub counted : links ≡ length (linkSlots numbers n)
@@ -55,7 +50,7 @@ pub record Movable (ps ns vs numbers report : List ℕ) (n links : ℕ) : Type 0
 
 -- columns with a stack of n slots whose links' neighbours are slots of the stack, and a report that is long enough
 pub record Compressible (ps ns gs vs : List ℕ) (n links report : ℕ) : Type 0 where
-  pub small : n ≤ 65535
+  pub small : n ≤ capacityLimit
   pub prev-within : n ≤ length ps
   pub next-within : n ≤ length ns
   pub generation-within : n ≤ length gs

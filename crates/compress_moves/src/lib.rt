@@ -5,9 +5,9 @@ ghost use Prim.Native.Nat.{ℕ, _+_, _*_, _≤_, _<_};
 ghost use lib.ListN.{length, set, drop, replicate};
 ghost use lib.Seq.{sets};
 ghost use Rattle.definitions.specs.Columns.{at, written};
-ghost use Rattle.definitions.specs.Arena.{arena, largestGeneration, headerWords, linkSlots};
+ghost use Rattle.definitions.specs.Arena.{arena, capacityLimit, largestGeneration, headerWords, linkSlots};
 ghost use Rattle.ptr.specs.Extra.{invalidationNumber};
-ghost use Rattle.compress_moves.specs.Moves.{Renewed, Numbered, Named, newName, Movable, carried};
+ghost use Rattle.compress_moves.specs.Moves.{Renewed, Numbered, newName, Movable, carried};
 use base_freelist::inc_generation;
 use header::CURRENT_GENERATION;
 use header::LINK_COUNT;
@@ -32,7 +32,7 @@ pub fn renew_generation(header: &mut [u32], reset: bool) -> InvalidationOption
 
 // Writes the four words of a link behind those of count links: the slot and the generation that it had, and those that it gets.
 pub fn tell_move(report: &mut [u32], count: usize, slot: u32, old: u32, new: u32)
-    requires { ⌜ (count < 65535) × (4 * count + 4 ≤ length (now report)) ⌝ }
+    requires { ⌜ (count < capacityLimit) × (4 * count + 4 ≤ length (now report)) ⌝ }
     ensures { λ _. ⌜ now (report .exit) ≡ sets (now (report .entry)) (4 * count) (slot ∷ old ∷ (count + 1) ∷ new ∷ []) ⌝ }
 {
     let w = 4 * count;
@@ -45,7 +45,7 @@ pub fn tell_move(report: &mut [u32], count: usize, slot: u32, old: u32, new: u32
 // Reports the links of a stack of n slots, in slot order, and puts each one's new slot where its generation was. While links are left, what is
 // reported of a free slot is written over by the next link.
 pub fn number_links(generation: &mut [u32], report: &mut [u32], n: usize, links: usize, new: u32)
-    requires { ⌜ (n ≤ 65535) × (n ≤ length (now generation)) × (links ≡ length (linkSlots (now generation) n)) × (4 * links ≤ length (now report)) ⌝ }
+    requires { ⌜ (n ≤ capacityLimit) × (n ≤ length (now generation)) × (links ≡ length (linkSlots (now generation) n)) × (4 * links ≤ length (now report)) ⌝ }
     ensures { λ _. ⌜ ((ps ns vs h : List ℕ) → Numbered (arena ps ns (now (generation .entry)) vs h) n new (now (report .entry)) (now (generation .exit)) (now (report .exit))) ⌝ }
 {
     let mut count: usize = 0;
@@ -64,28 +64,27 @@ pub fn number_links(generation: &mut [u32], report: &mut [u32], n: usize, links:
 }
 
 // The new slot of the link in slot s; 0 of none.
-pub fn new_slot(numbers: &[u32], s: u16) -> u16
-    requires { ⌜ (s ≤ length (now numbers)) × (at (now numbers) s ≤ 65535) ⌝ }
+pub fn new_slot(numbers: &[u32], s: u32) -> u32
+    requires { ⌜ s ≤ length (now numbers) ⌝ }
     ensures { λ r. ⌜ r ≡ at (now (numbers .entry)) s ⌝ }
 {
     if s == 0 {
         return 0;
     }
-    numbers[s as usize - 1] as u16
+    numbers[s as usize - 1]
 }
 
 // Moves the words of the link in slot s to place k, its neighbours under their new names.
 pub fn move_link(
-    prev: &mut [u16],
-    next: &mut [u16],
+    prev: &mut [u32],
+    next: &mut [u32],
     payload: &mut [u32],
     numbers: &[u32],
     s: usize,
     k: usize,
 )
     requires { ⌜ (k < s) × (s ≤ length (now prev)) × (s ≤ length (now next)) × (s ≤ length (now payload)) ⌝ }
-    requires { ⌜ Named (now numbers) (at (now prev) s) ⌝ }
-    requires { ⌜ Named (now numbers) (at (now next) s) ⌝ }
+    requires { ⌜ (at (now prev) s ≤ length (now numbers)) × (at (now next) s ≤ length (now numbers)) ⌝ }
     ensures { λ _. ⌜ (now (prev .exit) ≡ set (now (prev .entry)) k (newName (now (numbers .entry)) (now (prev .entry)) s))
         × (now (next .exit) ≡ set (now (next .entry)) k (newName (now (numbers .entry)) (now (next .entry)) s))
         × (now (payload .exit) ≡ set (now (payload .entry)) k (at (now (payload .entry)) s)) ⌝ }
@@ -101,8 +100,8 @@ pub fn move_link(
 
 // Moves the links that the report lists down to the front. Nothing moves where no slot of the n is free.
 pub fn move_down(
-    prev: &mut [u16],
-    next: &mut [u16],
+    prev: &mut [u32],
+    next: &mut [u32],
     payload: &mut [u32],
     numbers: &[u32],
     report: &[u32],

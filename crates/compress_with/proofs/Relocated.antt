@@ -19,7 +19,7 @@ use Rattle.base_freelist.proofs.Settled.{settled-over}
 use Rattle.compress_moves.specs.Moves.{numbered, newName, carried, Movable, Compressible}
 use Rattle.compress_moves.proofs.Numbers.{length-moves}
 use Rattle.compress_moves.proofs.Moving.{map-agree}
-use Rattle.compress_moves.proofs.Names.{numbered-at, numbered-links, numbered-link, numbered-small, numbered-full, length-numbered, numbers-long}
+use Rattle.compress_moves.proofs.Names.{numbered-at, numbered-links, numbered-link, numbered-full, length-numbered, numbers-long}
 
 -- popping leaves the words at the front, and the old words past the stack
 written-popped : (ws old : List ℕ) (k n : ℕ) → length ws ≡ k → k ≤ n → popped k n (written ws old) ≡ settled n ws old
@@ -63,7 +63,6 @@ module _ {ps ns gs vs : List ℕ} {n links room : ℕ} (can : Compressible ps ns
     next-within = can .next-within;
     payload-within = can .payload-within;
     numbers-within = omega (arith, length-numbered gs n fits, fits);
-    small = λ s h. omega (arith, numbered-small gs n fits s h, can .small);
     prev = λ o h. can .prev o (numbered-link gs n fits o h);
     next = λ o h. can .next o (numbered-link gs n fits o h);
     counted = can .counted ∙ ap length (sym same-links);

@@ -43,8 +43,8 @@ impl Compressed {
 
 // Moves the links of a stack of n slots to its front, in the order of their slots, reports them, and gives them the generation new.
 pub fn compress_columns(
-    prev: &mut [u16],
-    next: &mut [u16],
+    prev: &mut [u32],
+    next: &mut [u32],
     generation: &mut [u32],
     payload: &mut [u32],
     report: &mut [u32],
@@ -74,8 +74,8 @@ pub fn compress_columns(
 
 // Order-preserving compression of an arena that passed the check (REFERENCE, Order-preserving compression).
 pub fn compress_with(
-    prev: &mut [u16],
-    next: &mut [u16],
+    prev: &mut [u32],
+    next: &mut [u32],
     generation: &mut [u32],
     payload: &mut [u32],
     header: &mut [u32],

@@ -22,7 +22,7 @@ capacity a = length (a .prev)
 
 -- the largest capacity and the largest generation; definitions that depend on them take them as parameters, limit and top
 abbrev pub capacityLimit : ℕ
-capacityLimit = 65535
+capacityLimit = 1048576
 
 abbrev pub largestGeneration : ℕ
 largestGeneration = 4294967295

@@ -133,6 +133,8 @@ corners =
     row (arena (4 ∷ []) (1 ∷ []) (0 ∷ []) (6 ∷ []) (1 ∷ 0 ∷ 1 ∷ 5 ∷ [])) (with (CompressWith true) [] ∷ []) ((0 ∷ []) ∷ []) (arena (0 ∷ []) (0 ∷ []) (0 ∷ []) (0 ∷ []) (0 ∷ 0 ∷ 0 ∷ 2 ∷ [])) ∷
     -- a reset at the largest generation is no overflow
     row (arena (0 ∷ 1 ∷ []) (2 ∷ 0 ∷ []) (5 ∷ 5 ∷ []) (11 ∷ 12 ∷ []) (2 ∷ 2 ∷ 0 ∷ 4294967295 ∷ [])) (with (CompressCanonical true) (9 ∷ 9 ∷ []) ∷ []) ((0 ∷ 1 ∷ 2 ∷ []) ∷ []) (arena (0 ∷ 1 ∷ []) (2 ∷ 0 ∷ []) (2 ∷ 2 ∷ []) (11 ∷ 12 ∷ []) (2 ∷ 2 ∷ 0 ∷ 2 ∷ [])) ∷
+    -- a slot number that differs from a link's by 65,536 is not that link's: stale in a call and in a run, and a walk is over there
+    row three (plain (GetLink (pointer 65538 5)) ∷ plain (ExchangeNext (pointer 1 5) (pointer 65538 5)) ∷ with WalkStep (2 ∷ 65538 ∷ 0 ∷ 3 ∷ []) ∷ with (Run (2 ∷ 65538 ∷ 5 ∷ 0 ∷ 0 ∷ 0 ∷ 5 ∷ 65539 ∷ 5 ∷ 0 ∷ 0 ∷ 0 ∷ [])) (9 ∷ 9 ∷ []) ∷ []) ((12 ∷ 0 ∷ 0 ∷ 0 ∷ 0 ∷ 0 ∷ []) ∷ (12 ∷ []) ∷ (0 ∷ 0 ∷ 0 ∷ 2 ∷ 0 ∷ 0 ∷ 2 ∷ []) ∷ (0 ∷ 12 ∷ 12 ∷ []) ∷ []) three ∷
     -- due in a window that goes straight: its first dot is in it and its end is not, which may be the end of the frame
     row frame (plain (DueCount (pointer 1 5) 0 341) ∷ plain (DueCount (pointer 1 5) 0 340) ∷ plain (DueCount (pointer 1 5) 340 342) ∷ plain (DueCount (pointer 1 5) 341 89341) ∷ plain (DueCount (pointer 1 5) 341 89342) ∷ plain (DueCount (pointer 1 5) 0 89342) ∷ []) ((0 ∷ 2 ∷ []) ∷ (0 ∷ 1 ∷ []) ∷ (0 ∷ 2 ∷ []) ∷ (0 ∷ 1 ∷ []) ∷ (0 ∷ 2 ∷ []) ∷ (0 ∷ 4 ∷ []) ∷ []) frame ∷
     -- equal ends: nothing

@@ -117,7 +117,7 @@ rows =
     row filled (plain (Remove (pointer 1 5)) ∷ plain (Remove (pointer 2 6)) ∷ to 10 (pointer 3 5) ∷ []) ((0 ∷ 0 ∷ 2 ∷ 11 ∷ []) ∷ (0 ∷ 0 ∷ 3 ∷ 70 ∷ []) ∷ (0 ∷ 2 ∷ 8 ∷ []) ∷ []) (arena (0 ∷ 0 ∷ 2 ∷ []) (1 ∷ 3 ∷ 0 ∷ []) (0 ∷ 8 ∷ 5 ∷ []) (0 ∷ 70 ∷ 13 ∷ []) (3 ∷ 2 ∷ 1 ∷ 8 ∷ [])) ∷
     -- at the largest generation nothing overflows
     row (arena (0 ∷ []) (0 ∷ []) (0 ∷ []) (0 ∷ []) (0 ∷ 0 ∷ 0 ∷ 4294967295 ∷ [])) (alone 6 ∷ plain Check ∷ []) ((0 ∷ 1 ∷ 4294967295 ∷ []) ∷ (0 ∷ []) ∷ []) (arena (0 ∷ []) (0 ∷ []) (4294967295 ∷ []) (70 ∷ []) (1 ∷ 1 ∷ 0 ∷ 4294967295 ∷ [])) ∷
-    -- in a run: an insertion, 17 for a slot over 65,535, and 18
+    -- in a run: an insertion, 17 for a slot over the capacity, and 18
     row lone (with (Run (8 ∷ 1 ∷ 5 ∷ 0 ∷ 0 ∷ 70 ∷ 13 ∷ 70000 ∷ 0 ∷ 0 ∷ 0 ∷ 71 ∷ 6 ∷ 0 ∷ 0 ∷ 0 ∷ 0 ∷ 72 ∷ [])) (9 ∷ 9 ∷ 9 ∷ 9 ∷ []) ∷ []) ((0 ∷ 0 ∷ 17 ∷ 18 ∷ 9 ∷ []) ∷ []) behind ∷
     -- in a run: a bridge by pointers, and then one between the link that it made and its second one, by slots
     row apart (with (Run (18 ∷ 3 ∷ 5 ∷ 1 ∷ 5 ∷ 70 ∷ 17 ∷ 4 ∷ 0 ∷ 1 ∷ 0 ∷ 71 ∷ [])) (9 ∷ 9 ∷ []) ∷ []) ((0 ∷ 0 ∷ 0 ∷ []) ∷ []) (arena (2 ∷ 4 ∷ 0 ∷ 3 ∷ []) (0 ∷ 1 ∷ 4 ∷ 2 ∷ []) (5 ∷ 6 ∷ 5 ∷ 6 ∷ []) (11 ∷ 71 ∷ 13 ∷ 70 ∷ []) (4 ∷ 4 ∷ 0 ∷ 6 ∷ [])) ∷

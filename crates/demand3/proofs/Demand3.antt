@@ -41,6 +41,10 @@ demand-3-at limit top =
       unmoved = unmoved limit top;
     }
 
--- of the port: 65,535 slots, generations up to 4,294,967,295
+-- of the port: 1,048,576 slots, generations up to 4,294,967,295
 pub demand-3 : Demand3 capacityLimit largestGeneration
 demand-3 = demand-3-at capacityLimit largestGeneration
+
+-- and with 65,535 slots, the most that 16 bits number
+pub demand-3-at-65535 : Demand3 65535 largestGeneration
+demand-3-at-65535 = demand-3-at 65535 largestGeneration

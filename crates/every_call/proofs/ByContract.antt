@@ -37,6 +37,7 @@ use Rattle.every_call.proofs.RunIsFold.{one-command, reply-of-a-run, ca
 use Rattle.every_call.proofs.FrameLines.{lines-part-the-frame}
 use Rattle.every_call.proofs.Due.{due-counted, due-in-walk-order, done-exactly}
 use Rattle.every_call.proofs.IgnoresPayloads.{compression-ignores-payloads}
+use Rattle.every_call.proofs.WiderLimit.{below-65536}
 use Rattle.every_call.proofs.Insertions.{done-insert-places, seventeen-exactly-by-call, full-exactly-by-call}
 
 module _ (limit top : ℕ) (a : Arena) (l : List ℕ) (r : Reply) where
@@ -142,6 +143,10 @@ module _ (limit top : ℕ) (reset : Bool) {a b : Arena} (h : SameButPayloads a b
   pub canonical-ignores-by-contract :
       r ≡ replyTo limit top (CompressCanonical reset) a l → s ≡ replyTo limit top (CompressCanonical reset) b l → IgnoresPayloads a b (take (linkCount a) (r .back)) r s
   canonical-ignores-by-contract p q = rw (p, q) (compression-ignores-payloads limit top reset h l .1)
+
+-- a program that keeps the port's contract keeps that of 65,535 slots too, on arenas of so many
+pub below-65536-by-contract : (c : Call) (a : Arena) (l : List ℕ) (r : Reply) → r ≡ replyTo capacityLimit largestGeneration c a l → capacity a ≤ 65535 → r ≡ replyTo 65535 largestGeneration c a l
+below-65536-by-contract c a l r kept within = kept ∙ sym (below-65536 largestGeneration c a l within)
 
 -- demand 3 at the port's own limits
 pub demand-3-of-the-port : (a : Arena) (l : List ℕ) (r : Reply) (reset : Bool) → r ≡ replyTo capacityLimit largestGeneration (CompressCanonical reset) a l → Accepted r →

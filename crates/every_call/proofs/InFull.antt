@@ -60,7 +60,7 @@ use Rattle.renaming.proofs.CompressWith.{compress-with-renames, compressWith-ke
 use Rattle.demand3.proofs.Kept.{compressCanonical-keeps}
 use Rattle.demand3.proofs.Equivalence.{exchanges-are-renaming, where-from, links-laid}
 use Rattle.demand3.proofs.Computed.{canonical-overflows, canonical-resets, order-preserving-overflows, moving-nothing-is-refused}
-use Rattle.demand3.proofs.Demand3.{demand-3, demand-3-at}
+use Rattle.demand3.proofs.Demand3.{demand-3, demand-3-at, demand-3-at-65535}
 use Rattle.every_call.proofs.RefusalChangesNothing.{refusal-changes-nothing}
 use Rattle.every_call.proofs.BrokenSlot.{broken-slot-is-lowest, lowest-broken-is-one, eleven-by-call, names-lowest, names-lowest-by-contract, eleven-by-contract}
 use Rattle.every_call.proofs.EveryCallKeeps.{every-call-keeps, any-calls-keep, inside-a-run}
@@ -70,8 +70,9 @@ use Rattle.every_call.proofs.Insertions.{insert-by-call, no-such-kind, 
 use Rattle.every_call.proofs.FrameLines.{lines-part-the-frame, dot-in-its-line}
 use Rattle.every_call.proofs.Due.{due-counted, due-in-walk-order, twelve-exactly, nineteen-exactly, fourteen-exactly, done-exactly, counts-agree, windows-part, windows-part-a-chain, counts-add-up}
 use Rattle.every_call.proofs.IgnoresPayloads.{compression-ignores-payloads}
+use Rattle.every_call.proofs.WiderLimit.{below-65536, calls-below-65536, small-below-65536, same-within, one-above-the-limit, one-slot-more}
 use Rattle.every_call.proofs.ContractDetermines.{contract-determines, contract-can-be-kept, programs-agree}
-use Rattle.every_call.proofs.ByContract.{due-counted-by-contract, due-by-contract, count-done-by-contract, due-done-by-contract, lines-by-contract, compress-with-ignores-by-contract, canonical-ignores-by-contract, refusal-by-contract, kept-by-contract, drain-by-contract, insert-by-contract, seventeen-by-contract, full-by-contract, demand-3-by-contract, demand-3-of-the-port, run-by-contract, run-calls-by-contract, check-by-contract, well-formed-after-calls, well-formed-after-commands, answers-are-words}
+use Rattle.every_call.proofs.ByContract.{below-65536-by-contract, due-counted-by-contract, due-by-contract, count-done-by-contract, due-done-by-contract, lines-by-contract, compress-with-ignores-by-contract, canonical-ignores-by-contract, refusal-by-contract, kept-by-contract, drain-by-contract, insert-by-contract, seventeen-by-contract, full-by-contract, demand-3-by-contract, demand-3-of-the-port, run-by-contract, run-calls-by-contract, check-by-contract, well-formed-after-calls, well-formed-after-commands, answers-are-words}
 
 -- ---- the check
 
@@ -418,11 +419,14 @@ compressWith-keeps-in-full = compressWith-keeps
 pub compressCanonical-keeps-in-full : (limit top : ℕ) (a : Arena) → WellFormed limit a → (reset : Bool) (whereFrom : List ℕ) → WellFormed limit (compressCanonical top reset a whereFrom .arena)
 compressCanonical-keeps-in-full = compressCanonical-keeps
 
-pub demand-3-in-full : Demand3 65535 4294967295
+pub demand-3-in-full : Demand3 1048576 4294967295
 demand-3-in-full = demand-3
 
 pub demand-3-at-in-full : (limit top : ℕ) → Demand3 limit top
 demand-3-at-in-full = demand-3-at
+
+pub demand-3-at-65535-in-full : Demand3 65535 4294967295
+demand-3-at-65535-in-full = demand-3-at-65535
 
 -- the exchanges lead to the arena in which the links are laid out in the canonical order, and the where-from column to that order
 pub exchanges-are-renaming-in-full : (limit : ℕ) (a : Arena) → WellFormed limit a → (g : ℕ) → canonicalArena g a ≡ relocate (take (linkCount a) (laidOut a .from)) g a
@@ -441,15 +445,15 @@ canonical-by-call limit top a reset w passes long = let e = eq-eqb (verdict limi
 abbrev largest : Arena
 largest = arena (0 ∷ 0 ∷ 3 ∷ 2 ∷ 7 ∷ []) (1 ∷ 4 ∷ 3 ∷ 0 ∷ 7 ∷ []) (0 ∷ 5 ∷ 5 ∷ 5 ∷ 7 ∷ []) (8 ∷ 12 ∷ 13 ∷ 14 ∷ 7 ∷ []) (4 ∷ 3 ∷ 1 ∷ 4294967295 ∷ [])
 
-pub canonical-overflows-in-full : replyTo 65535 4294967295 (CompressCanonical false) largest (9 ∷ 9 ∷ 9 ∷ 9 ∷ 9 ∷ []) ≡
+pub canonical-overflows-in-full : replyTo 1048576 4294967295 (CompressCanonical false) largest (9 ∷ 9 ∷ 9 ∷ 9 ∷ 9 ∷ []) ≡
     reply 100 [] (arena (0 ∷ 1 ∷ 3 ∷ 0 ∷ 7 ∷ []) (2 ∷ 0 ∷ 3 ∷ 0 ∷ 7 ∷ []) (2 ∷ 2 ∷ 2 ∷ 0 ∷ 7 ∷ []) (12 ∷ 14 ∷ 13 ∷ 0 ∷ 7 ∷ []) (3 ∷ 3 ∷ 0 ∷ 2 ∷ [])) (2 ∷ 4 ∷ 3 ∷ 0 ∷ 9 ∷ [])
 canonical-overflows-in-full = canonical-overflows
 
-pub canonical-resets-in-full : replyTo 65535 4294967295 (CompressCanonical true) largest (9 ∷ 9 ∷ 9 ∷ 9 ∷ 9 ∷ []) ≡
+pub canonical-resets-in-full : replyTo 1048576 4294967295 (CompressCanonical true) largest (9 ∷ 9 ∷ 9 ∷ 9 ∷ 9 ∷ []) ≡
     reply 0 [] (arena (0 ∷ 1 ∷ 3 ∷ 0 ∷ 7 ∷ []) (2 ∷ 0 ∷ 3 ∷ 0 ∷ 7 ∷ []) (2 ∷ 2 ∷ 2 ∷ 0 ∷ 7 ∷ []) (12 ∷ 14 ∷ 13 ∷ 0 ∷ 7 ∷ []) (3 ∷ 3 ∷ 0 ∷ 2 ∷ [])) (2 ∷ 4 ∷ 3 ∷ 0 ∷ 9 ∷ [])
 canonical-resets-in-full = canonical-resets
 
-pub order-preserving-overflows-in-full : replyTo 65535 4294967295 (CompressWith false) largest (9 ∷ 9 ∷ 9 ∷ 9 ∷ 9 ∷ 9 ∷ 9 ∷ 9 ∷ 9 ∷ 9 ∷ 9 ∷ 9 ∷ 9 ∷ []) ≡
+pub order-preserving-overflows-in-full : replyTo 1048576 4294967295 (CompressWith false) largest (9 ∷ 9 ∷ 9 ∷ 9 ∷ 9 ∷ 9 ∷ 9 ∷ 9 ∷ 9 ∷ 9 ∷ 9 ∷ 9 ∷ 9 ∷ []) ≡
     reply 100 [] (arena (0 ∷ 2 ∷ 1 ∷ 0 ∷ 7 ∷ []) (3 ∷ 2 ∷ 0 ∷ 0 ∷ 7 ∷ []) (2 ∷ 2 ∷ 2 ∷ 0 ∷ 7 ∷ []) (12 ∷ 13 ∷ 14 ∷ 0 ∷ 7 ∷ []) (3 ∷ 3 ∷ 0 ∷ 2 ∷ []))
     (2 ∷ 5 ∷ 1 ∷ 2 ∷ 3 ∷ 5 ∷ 2 ∷ 2 ∷ 4 ∷ 5 ∷ 3 ∷ 2 ∷ 9 ∷ [])
 order-preserving-overflows-in-full = order-preserving-overflows
@@ -548,8 +552,8 @@ module _ (limit top : ℕ) (a : Arena) (l : List ℕ) (r : Reply) where
       → IgnoresPayloads a b (take (linkCount a) (r .back)) r s
   canonical-ignores-by-contract-in-full reset b h s p q = canonical-ignores-by-contract limit top reset h l p q
 
-pub demand-3-of-the-port-in-full : (a : Arena) (l : List ℕ) (r : Reply) (reset : Bool) → r ≡ replyTo 65535 4294967295 (CompressCanonical reset) a l → (r .number ≡ 0) ⊎ (r .number ≡ 100) →
-    OfOne 65535 4294967295 a (r .arena) (take (linkCount a) (r .back)) (linkCount a) (pieces (at (r .arena .next)) (linkCount a))
+pub demand-3-of-the-port-in-full : (a : Arena) (l : List ℕ) (r : Reply) (reset : Bool) → r ≡ replyTo 1048576 4294967295 (CompressCanonical reset) a l → (r .number ≡ 0) ⊎ (r .number ≡ 100) →
+    OfOne 1048576 4294967295 a (r .arena) (take (linkCount a) (r .back)) (linkCount a) (pieces (at (r .arena .next)) (linkCount a))
 demand-3-of-the-port-in-full = demand-3-of-the-port
 
 pub well-formed-after-calls-in-full : (limit top : ℕ) (a : Arena) → WellFormed limit a → (ms : List Made) → WellFormed limit (arenaAfter limit top ms a)
@@ -600,8 +604,8 @@ all-of limit arenas h = record {
 pub small-arenas-at-in-full : (limit : ℕ) → 3 ≤ limit → HasAll limit smallArenas
 small-arenas-at-in-full limit h = has-all limit smallArenas (small-arenas-at limit h)
 
-pub small-arenas-in-full : HasAll 65535 smallArenas
-small-arenas-in-full = has-all 65535 smallArenas small-arenas
+pub small-arenas-in-full : HasAll 1048576 smallArenas
+small-arenas-in-full = has-all 1048576 smallArenas small-arenas
 
 pub none-twice-in-full : (limit : ℕ) (arenas : List Arena) → HasAll limit arenas → (i j : ℕ) → i < 90 → j < 90 → entry arenas i ≡ entry arenas j → i ≡ j
 none-twice-in-full limit arenas h i j k l = none-twice (all-of limit arenas h) i j (omega (arith, h .0)) (omega (arith, h .0))
@@ -670,3 +674,29 @@ module _ (limit : ℕ) (a : Arena) (index : ℕ) (r : Reply) (p : r ≡ smallAre
       (verdict limit (arenaAfter limit top ms (lentOn (getD (r .fields) 1 0) (r .arena))) ≡ 0)
       × (verdict limit (arenaAfter limit top ms (r .arena)) ≡ 0)
   calls-after-small-in-full = calls-after-small limit a index r p
+
+-- ---- two limits
+
+module _ (top : ℕ) (a : Arena) (within : length (a .prev) ≤ 65535) where
+  pub below-65536-in-full : (c : Call) (l : List ℕ) → replyTo 65535 top c a l ≡ replyTo 1048576 top c a l
+  below-65536-in-full c l = below-65536 top c a l within
+
+  pub calls-below-65536-in-full : (ms : List Made) → (repliesTo 65535 top ms a ≡ repliesTo 1048576 top ms a) × (arenaAfter 65535 top ms a ≡ arenaAfter 1048576 top ms a)
+  calls-below-65536-in-full ms = calls-below-65536 top ms a within
+
+  pub small-below-65536-in-full : (index : ℕ) → smallArena 65535 a index ≡ smallArena 1048576 a index
+  small-below-65536-in-full index = small-below-65536 a index within
+
+  pub below-65536-by-contract-in-full : (c : Call) (l : List ℕ) (r : Reply) → r ≡ replyTo 1048576 4294967295 c a l → r ≡ replyTo 65535 4294967295 c a l
+  below-65536-by-contract-in-full c l r kept = below-65536-by-contract c a l r kept within
+
+-- any two limits, and what is between them
+pub same-within-in-full : (limit wider top : ℕ) → limit ≤ wider → (c : Call) (a : Arena) (l : List ℕ) → length (a .prev) ≤ limit → replyTo limit top c a l ≡ replyTo wider top c a l
+same-within-in-full limit wider top wide c a l within = same-within limit wider a within wide top c l
+
+pub one-above-the-limit-in-full : (limit top : ℕ) (c : Call) (a : Arena) (l : List ℕ) → limit < length (a .prev) → replyTo limit top c a l .number ≡ 1
+one-above-the-limit-in-full = one-above-the-limit
+
+pub one-slot-more-in-full : (limit wider top : ℕ) → limit < wider →
+    (a : Arena) × (length (a .prev) ≡ limit + 1) × (replyTo limit top Check a [] .number ≡ 1) × (replyTo wider top Check a [] .number ≡ 0)
+one-slot-more-in-full = one-slot-more

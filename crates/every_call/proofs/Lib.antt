@@ -9,6 +9,7 @@ pub mod FrameLines
 pub mod Due
 pub mod IgnoresPayloads
 pub mod SmallArenas
+pub mod WiderLimit
 pub mod ContractDetermines
 pub mod ByContract
 pub mod InFull

@@ -22,8 +22,8 @@ use ptr::Slot;
 
 // The place that a kind names, if what it asks holds. t is the slot of the new link.
 pub fn check_link_insert_kind(
-    prev: &[u16],
-    next: &[u16],
+    prev: &[u32],
+    next: &[u32],
     generation: &[u32],
     payload: &[u32],
     header: &[u32],

@@ -54,7 +54,7 @@ pub fn both(x: bool, y: bool) -> bool
 }
 
 // Whether the link s, if it is there, has no neighbour in the column.
-pub fn lacks(column: &[u16], there: bool, s: Slot) -> bool
+pub fn lacks(column: &[u32], there: bool, s: Slot) -> bool
     requires { ⌜ Standing there (s .0) (now column) ⌝ }
     ensures { λ r. ⌜ r ≡ there && eqb (at (now (column .entry)) (s .0)) 0 ⌝ }
 {
@@ -75,7 +75,7 @@ pub fn place_if(fits: bool, u: Slot, v: Slot) -> Place
 }
 
 // Right behind the link s, if it is there.
-pub fn next_to(next: &[u16], there: bool, s: Slot) -> Place
+pub fn next_to(next: &[u32], there: bool, s: Slot) -> Place
     requires { ⌜ Standing there (s .0) (now next) ⌝ }
     ensures { λ r. ⌜ placed r ≡ placeIf there (s .0) (at (now (next .entry)) (s .0)) ⌝ }
 {
@@ -87,7 +87,7 @@ pub fn next_to(next: &[u16], there: bool, s: Slot) -> Place
 }
 
 // Right before the link s, if it is there.
-pub fn prev_to(prev: &[u16], there: bool, s: Slot) -> Place
+pub fn prev_to(prev: &[u32], there: bool, s: Slot) -> Place
     requires { ⌜ Standing there (s .0) (now prev) ⌝ }
     ensures { λ r. ⌜ placed r ≡ placeIf there (at (now (prev .entry)) (s .0)) (s .0) ⌝ }
 {
@@ -99,7 +99,7 @@ pub fn prev_to(prev: &[u16], there: bool, s: Slot) -> Place
 }
 
 // Between the links s and t, if they are there and t is the next of s.
-pub fn at_interlink(next: &[u16], there: bool, s: Slot, t: Slot) -> Place
+pub fn at_interlink(next: &[u32], there: bool, s: Slot, t: Slot) -> Place
     requires { ⌜ Standing there (s .0) (now next) ⌝ }
     ensures { λ r. ⌜ placed r ≡ placeIf (there && eqb (at (now (next .entry)) (s .0)) (t .0)) (s .0) (t .0) ⌝ }
 {
@@ -110,7 +110,7 @@ pub fn at_interlink(next: &[u16], there: bool, s: Slot, t: Slot) -> Place
 }
 
 // Between the links s and t, if they are there and s has no next and t no prev.
-pub fn bridge(prev: &[u16], next: &[u16], there: bool, s: Slot, t: Slot) -> Place
+pub fn bridge(prev: &[u32], next: &[u32], there: bool, s: Slot, t: Slot) -> Place
     requires { ⌜ Standing there (s .0) (now next) ⌝ }
     requires { ⌜ Standing there (t .0) (now prev) ⌝ }
     ensures { λ r. ⌜ placed r ≡ placeIf (there && (eqb (at (now (next .entry)) (s .0)) 0 && eqb (at (now (prev .entry)) (t .0)) 0)) (s .0) (t .0) ⌝ }

@@ -53,12 +53,12 @@ fn due_result(d: Due) -> DueResult
 // How many links of p's chain are due in a window that begins with the dot `from` and ends before `to` (REFERENCE, Frame clock).
 #[no_mangle]
 pub extern "C" fn chain_arena_due_count(
-    prev: &[u16],
-    next: &[u16],
+    prev: &[u32],
+    next: &[u32],
     generation: &[u32],
     payload: &[u32],
     header: &[u32],
-    p_slot: u16,
+    p_slot: u32,
     p_generation: u32,
     from: u32,
     to: u32,
@@ -88,16 +88,16 @@ pub extern "C" fn chain_arena_due_count(
 // (REFERENCE, Frame clock).
 #[no_mangle]
 pub extern "C" fn chain_arena_due_events(
-    prev: &[u16],
-    next: &[u16],
+    prev: &[u32],
+    next: &[u32],
     generation: &[u32],
     payload: &[u32],
     header: &[u32],
-    p_slot: u16,
+    p_slot: u32,
     p_generation: u32,
     from: u32,
     to: u32,
-    report: &mut [u16],
+    report: &mut [u32],
 ) -> DueResult
     ensures { λ r. ⌜ Answered (DueEvents (pointer «p_slot» «p_generation») from to)
         (atEntry prev next generation payload header) (now (report .entry)) (r .answer) (r .count ∷ []) (atExit prev next generation payload header) (now (report .exit)) ⌝ }

@@ -38,8 +38,8 @@ pub struct NeighborsResult {
 // (REFERENCE, Check).
 #[no_mangle]
 pub extern "C" fn chain_arena_check(
-    prev: &[u16],
-    next: &[u16],
+    prev: &[u32],
+    next: &[u32],
     generation: &[u32],
     payload: &[u32],
     header: &[u32],
@@ -52,12 +52,12 @@ pub extern "C" fn chain_arena_check(
 // The link at p and its neighbours with their generations (REFERENCE, Reading).
 #[no_mangle]
 pub extern "C" fn chain_arena_get_link(
-    prev: &[u16],
-    next: &[u16],
+    prev: &[u32],
+    next: &[u32],
     generation: &[u32],
     payload: &[u32],
     header: &[u32],
-    p_slot: u16,
+    p_slot: u32,
     p_generation: u32,
 ) -> LinkResult
     ensures { λ r. ⌜ Answered (GetLink (pointer «p_slot» «p_generation»))
@@ -89,9 +89,9 @@ pub extern "C" fn chain_arena_get_link(
         },
         GotLink::Found(l) => LinkResult {
             answer: Answer::of(0),
-            prev: l.prev.inx.0 as u32,
+            prev: l.prev.inx.0,
             prev_generation: l.prev.generation.0,
-            next: l.next.inx.0 as u32,
+            next: l.next.inx.0,
             next_generation: l.next.generation.0,
             payload: l.t,
         },
@@ -101,12 +101,12 @@ pub extern "C" fn chain_arena_get_link(
 // The link at p (REFERENCE, Reading).
 #[no_mangle]
 pub extern "C" fn chain_arena_get_link_no_gen(
-    prev: &[u16],
-    next: &[u16],
+    prev: &[u32],
+    next: &[u32],
     generation: &[u32],
     payload: &[u32],
     header: &[u32],
-    p_slot: u16,
+    p_slot: u32,
     p_generation: u32,
 ) -> LinkNoGenResult
     ensures { λ r. ⌜ Answered (GetLinkNoGen (pointer «p_slot» «p_generation»))
@@ -134,8 +134,8 @@ pub extern "C" fn chain_arena_get_link_no_gen(
         },
         GotLinkNoGen::Found(l) => LinkNoGenResult {
             answer: Answer::of(0),
-            prev: l.prev.0 as u32,
-            next: l.next.0 as u32,
+            prev: l.prev.0,
+            next: l.next.0,
             payload: l.t,
         },
     }
@@ -144,14 +144,14 @@ pub extern "C" fn chain_arena_get_link_no_gen(
 // Whether the next of p_prev is p_next; no where either is stale (REFERENCE, Reading).
 #[no_mangle]
 pub extern "C" fn chain_arena_are_neighbors(
-    prev: &[u16],
-    next: &[u16],
+    prev: &[u32],
+    next: &[u32],
     generation: &[u32],
     payload: &[u32],
     header: &[u32],
-    p_prev_slot: u16,
+    p_prev_slot: u32,
     p_prev_generation: u32,
-    p_next_slot: u16,
+    p_next_slot: u32,
     p_next_generation: u32,
 ) -> NeighborsResult
     ensures { λ r. ⌜ Answered (AreNeighbors (pointer «p_prev_slot» «p_prev_generation») (pointer «p_next_slot» «p_next_generation»))

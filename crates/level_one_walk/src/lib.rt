@@ -38,12 +38,12 @@ pub struct StepResult {
 // Begins a walk at p (REFERENCE, Walk).
 #[no_mangle]
 pub extern "C" fn chain_arena_walk_start(
-    prev: &[u16],
-    next: &[u16],
+    prev: &[u32],
+    next: &[u32],
     generation: &[u32],
     payload: &[u32],
     header: &[u32],
-    p_slot: u16,
+    p_slot: u32,
     p_generation: u32,
 ) -> WalkResult
     ensures { λ r. ⌜ Answered (WalkStart (pointer «p_slot» «p_generation»))
@@ -84,8 +84,8 @@ pub extern "C" fn chain_arena_walk_start(
 // One step of a walk: the link at the position, or none, and the next state. A refused step gives its state back as it got it (REFERENCE, Walk).
 #[no_mangle]
 pub extern "C" fn chain_arena_walk_step(
-    prev: &[u16],
-    next: &[u16],
+    prev: &[u32],
+    next: &[u32],
     generation: &[u32],
     payload: &[u32],
     header: &[u32],

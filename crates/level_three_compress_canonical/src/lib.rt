@@ -13,13 +13,13 @@ use compress_canonical::compress_canonical;
 // before. Reset, where it is not 0, makes the generation 2 (REFERENCE, Canonical compression).
 #[no_mangle]
 pub extern "C" fn chain_arena_compress_canonical(
-    prev: &mut [u16],
-    next: &mut [u16],
+    prev: &mut [u32],
+    next: &mut [u32],
     generation: &mut [u32],
     payload: &mut [u32],
     header: &mut [u32],
     reset: u32,
-    where_from: &mut [u16],
+    where_from: &mut [u32],
 ) -> Answer
     ensures { λ r. ⌜ Answered (CompressCanonical (not (eqb reset 0)))
         (atEntry prev next generation payload header) (now («where_from» .entry)) r [] (atExit prev next generation payload header) (now («where_from» .exit)) ⌝ }

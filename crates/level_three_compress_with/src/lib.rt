@@ -13,8 +13,8 @@ use compress_with::compress_with;
 // Reset, where it is not 0, makes the generation 2 (REFERENCE, Order-preserving compression).
 #[no_mangle]
 pub extern "C" fn chain_arena_compress_with(
-    prev: &mut [u16],
-    next: &mut [u16],
+    prev: &mut [u32],
+    next: &mut [u32],
     generation: &mut [u32],
     payload: &mut [u32],
     header: &mut [u32],

@@ -50,12 +50,12 @@ fn drain_result(d: Drained) -> DrainResult
 // Removes every link of p's chain, in the order of a walk from p, and reports each as it is when its turn comes, in five words (REFERENCE, Drain).
 #[no_mangle]
 pub extern "C" fn chain_arena_drain(
-    prev: &mut [u16],
-    next: &mut [u16],
+    prev: &mut [u32],
+    next: &mut [u32],
     generation: &mut [u32],
     payload: &mut [u32],
     header: &mut [u32],
-    p_slot: u16,
+    p_slot: u32,
     p_generation: u32,
     report: &mut [u32],
 ) -> DrainResult

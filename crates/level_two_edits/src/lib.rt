@@ -17,14 +17,14 @@ use ptr::Slot;
 // Joins the end p_prev to the start p_next (REFERENCE, Connect).
 #[no_mangle]
 pub extern "C" fn chain_arena_connect(
-    prev: &mut [u16],
-    next: &mut [u16],
+    prev: &mut [u32],
+    next: &mut [u32],
     generation: &[u32],
     payload: &[u32],
     header: &[u32],
-    p_prev_slot: u16,
+    p_prev_slot: u32,
     p_prev_generation: u32,
-    p_next_slot: u16,
+    p_next_slot: u32,
     p_next_generation: u32,
 ) -> Answer
     ensures { λ r. ⌜ Answered (Connect (pointer «p_prev_slot» «p_prev_generation») (pointer «p_next_slot» «p_next_generation»))
@@ -48,12 +48,12 @@ pub extern "C" fn chain_arena_connect(
 // Takes the interlink between p and its prev away (REFERENCE, Break).
 #[no_mangle]
 pub extern "C" fn chain_arena_break_prev(
-    prev: &mut [u16],
-    next: &mut [u16],
+    prev: &mut [u32],
+    next: &mut [u32],
     generation: &[u32],
     payload: &[u32],
     header: &[u32],
-    p_slot: u16,
+    p_slot: u32,
     p_generation: u32,
 ) -> Answer
     ensures { λ r. ⌜ Answered (BreakPrev (pointer «p_slot» «p_generation»))
@@ -73,12 +73,12 @@ pub extern "C" fn chain_arena_break_prev(
 // Takes the interlink between p and its next away (REFERENCE, Break).
 #[no_mangle]
 pub extern "C" fn chain_arena_break_next(
-    prev: &mut [u16],
-    next: &mut [u16],
+    prev: &mut [u32],
+    next: &mut [u32],
     generation: &[u32],
     payload: &[u32],
     header: &[u32],
-    p_slot: u16,
+    p_slot: u32,
     p_generation: u32,
 ) -> Answer
     ensures { λ r. ⌜ Answered (BreakNext (pointer «p_slot» «p_generation»))
@@ -98,14 +98,14 @@ pub extern "C" fn chain_arena_break_next(
 // Gives each of p0 and p1 the other's next (REFERENCE, Exchange).
 #[no_mangle]
 pub extern "C" fn chain_arena_exchange_next(
-    prev: &mut [u16],
-    next: &mut [u16],
+    prev: &mut [u32],
+    next: &mut [u32],
     generation: &[u32],
     payload: &[u32],
     header: &[u32],
-    p0_slot: u16,
+    p0_slot: u32,
     p0_generation: u32,
-    p1_slot: u16,
+    p1_slot: u32,
     p1_generation: u32,
 ) -> Answer
     ensures { λ r. ⌜ Answered (ExchangeNext (pointer «p0_slot» «p0_generation») (pointer «p1_slot» «p1_generation»))

@@ -13,8 +13,8 @@ use ptr::Gen;
 // Makes new_generation the current one; 15 where it is 0 or 1 (REFERENCE, Generation).
 #[no_mangle]
 pub extern "C" fn chain_arena_set_generation(
-    prev: &[u16],
-    next: &[u16],
+    prev: &[u32],
+    next: &[u32],
     generation: &[u32],
     payload: &[u32],
     header: &mut [u32],
@@ -33,8 +33,8 @@ pub extern "C" fn chain_arena_set_generation(
 // Raises the current generation; 100 where it overflowed (REFERENCE, Generation).
 #[no_mangle]
 pub extern "C" fn chain_arena_inc_generation(
-    prev: &[u16],
-    next: &[u16],
+    prev: &[u32],
+    next: &[u32],
     generation: &[u32],
     payload: &[u32],
     header: &mut [u32],
@@ -53,8 +53,8 @@ pub extern "C" fn chain_arena_inc_generation(
 // Pops the free slots at the end of the stack and lists the others in rising order (REFERENCE, Freelist).
 #[no_mangle]
 pub extern "C" fn chain_arena_canonicalize_freelist(
-    prev: &mut [u16],
-    next: &mut [u16],
+    prev: &mut [u32],
+    next: &mut [u32],
     generation: &mut [u32],
     payload: &mut [u32],
     header: &mut [u32],

@@ -32,7 +32,7 @@ fn insert_result(inserted: Inserted) -> InsertResult
     match inserted {
         Inserted::Done(p) => InsertResult {
             answer: answer,
-            slot: p.inx.0 as u32,
+            slot: p.inx.0,
             generation: p.generation.0,
         },
         Inserted::UnknownKind => InsertResult {
@@ -56,15 +56,15 @@ fn insert_result(inserted: Inserted) -> InsertResult
 // Inserts a link of the new payload where the kind says, 6 to 19, with the links at p and q if it names them (REFERENCE, Insert).
 #[no_mangle]
 pub extern "C" fn chain_arena_insert(
-    prev: &mut [u16],
-    next: &mut [u16],
+    prev: &mut [u32],
+    next: &mut [u32],
     generation: &mut [u32],
     payload: &mut [u32],
     header: &mut [u32],
     kind: u32,
-    p_slot: u16,
+    p_slot: u32,
     p_generation: u32,
-    q_slot: u16,
+    q_slot: u32,
     q_generation: u32,
     new_payload: u32,
 ) -> InsertResult

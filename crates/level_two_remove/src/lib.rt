@@ -25,14 +25,14 @@ fn remove_result(removed: InvalidationResult) -> LinkNoGenResult
     match removed {
         InvalidationResult::Success(l) => LinkNoGenResult {
             answer: answer,
-            prev: l.prev.0 as u32,
-            next: l.next.0 as u32,
+            prev: l.prev.0,
+            next: l.next.0,
             payload: l.t,
         },
         InvalidationResult::GenerationOverflow(l) => LinkNoGenResult {
             answer: answer,
-            prev: l.prev.0 as u32,
-            next: l.next.0 as u32,
+            prev: l.prev.0,
+            next: l.next.0,
             payload: l.t,
         },
         InvalidationResult::InvalidPtr => LinkNoGenResult {
@@ -47,12 +47,12 @@ fn remove_result(removed: InvalidationResult) -> LinkNoGenResult
 // Removes the link at p, and answers what it was (REFERENCE, Remove).
 #[no_mangle]
 pub extern "C" fn chain_arena_remove(
-    prev: &mut [u16],
-    next: &mut [u16],
+    prev: &mut [u32],
+    next: &mut [u32],
     generation: &mut [u32],
     payload: &mut [u32],
     header: &mut [u32],
-    p_slot: u16,
+    p_slot: u32,
     p_generation: u32,
 ) -> LinkNoGenResult
     ensures { λ r. ⌜ Answered (Remove (pointer «p_slot» «p_generation»))

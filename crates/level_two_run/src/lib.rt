@@ -10,8 +10,8 @@ use chain_run::run;
 // Runs the commands, six words each, and writes an answer word for each: 0, 100, 12, 13, 16, 17 or 18 (REFERENCE, Run).
 #[no_mangle]
 pub extern "C" fn chain_arena_run(
-    prev: &mut [u16],
-    next: &mut [u16],
+    prev: &mut [u32],
+    next: &mut [u32],
     generation: &mut [u32],
     payload: &mut [u32],
     header: &mut [u32],

@@ -1,11 +1,11 @@
-// Pointers and generations (fundamental/ptr.rs and extra.rs), for the one instance of 16-bit slots and 32-bit generations.
+// Pointers and generations (fundamental/ptr.rs and extra.rs), for the one instance of 32-bit slots and generations.
 ghost use mathlib.Core.Path.{_≡_};
 ghost use Rattle.definitions.specs.Arena.{largestGeneration};
 ghost use Rattle.definitions.specs.Edit.{nextGeneration, overflows, doneNumber};
 ghost use Rattle.ptr.specs.Extra.{invalidationNumber};
 
 // A slot number; 0 where there is none.
-pub struct Slot(pub u16);
+pub struct Slot(pub u32);
 
 // A generation; a free slot has 0.
 pub struct Gen(pub u32);

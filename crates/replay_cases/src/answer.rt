@@ -28,20 +28,6 @@ pub fn no_call() -> Answer {
     Answer::of(999)
 }
 
-// Writes a space and the slot.
-fn write_slot(slot: u16) {
-    write_word(slot as u32);
-}
-
-// Writes the first n slots.
-pub fn write_slots(slots: [u16; 64], n: usize) {
-    for i in 0..64 {
-        if i < n {
-            write_slot(slots[i]);
-        }
-    }
-}
-
 // Writes the first n words.
 pub fn write_words(words: [u32; 64], n: usize) {
     for i in 0..64 {
@@ -53,9 +39,9 @@ pub fn write_words(words: [u32; 64], n: usize) {
 
 // Writes the columns and the header, as much of each as was lent, and ends the line.
 pub fn write_arena(
-    prev: [u16; 64],
+    prev: [u32; 64],
     p: usize,
-    next: [u16; 64],
+    next: [u32; 64],
     q: usize,
     generation: [u32; 64],
     g: usize,
@@ -64,8 +50,8 @@ pub fn write_arena(
     header: [u32; 64],
     h: usize,
 ) {
-    write_slots(prev, p);
-    write_slots(next, q);
+    write_words(prev, p);
+    write_words(next, q);
     write_words(generation, g);
     write_words(payload, w);
     write_words(header, h);

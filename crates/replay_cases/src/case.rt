@@ -78,24 +78,6 @@ pub fn lent_of(case: &[u32; 192], part: usize) -> usize
     n
 }
 
-// The word as a slot, 0 if it is none.
-fn slot_of(word: u32) -> u16 {
-    if word <= 65535 { word as u16 } else { 0 }
-}
-
-// A part of which n slots are lent.
-pub fn slots_of(case: &[u32; 192], part: usize, n: usize) -> [u16; 64]
-    requires { ⌜ n ≤ 64 ⌝ }
-    ensures { λ r. ⌜ Counts n r ⌝ }
-{
-    let from = start(case, part);
-    let mut slots = [0u16; 64];
-    for i in 0..64 {
-        slots[i] = slot_of(word_at(case, from + i));
-    }
-    slots
-}
-
 // A part of which n words are lent.
 pub fn words_of(case: &[u32; 192], part: usize, n: usize) -> [u32; 64]
     requires { ⌜ n ≤ 64 ⌝ }
@@ -109,10 +91,8 @@ pub fn words_of(case: &[u32; 192], part: usize, n: usize) -> [u32; 64]
     words
 }
 
-// The argument words, 0 where there are fewer; the first and the third as slots too, since a pointer is a slot and a generation.
+// The argument words, 0 where there are fewer. A pointer is two of them, a slot and a generation.
 pub struct Arguments {
-    pub slot: u16,
-    pub other_slot: u16,
     pub first: u32,
     pub second: u32,
     pub third: u32,
@@ -122,14 +102,10 @@ pub struct Arguments {
 // The case's arguments.
 pub fn arguments_of(case: &[u32; 192]) -> Arguments {
     let from = start(case, ARGS);
-    let first = word_at(case, from);
-    let third = word_at(case, from + 2);
     Arguments {
-        slot: slot_of(first),
-        other_slot: slot_of(third),
-        first: first,
+        first: word_at(case, from),
         second: word_at(case, from + 1),
-        third: third,
+        third: word_at(case, from + 2),
         fourth: word_at(case, from + 3),
     }
 }
@@ -137,9 +113,9 @@ pub fn arguments_of(case: &[u32; 192]) -> Arguments {
 // The argument words of an insertion: the kind, two pointers and the payload.
 pub struct Insertion {
     pub kind: u32,
-    pub p_slot: u16,
+    pub p_slot: u32,
     pub p_generation: u32,
-    pub q_slot: u16,
+    pub q_slot: u32,
     pub q_generation: u32,
     pub payload: u32,
 }
@@ -149,9 +125,9 @@ pub fn insertion_of(case: &[u32; 192]) -> Insertion {
     let from = start(case, ARGS);
     Insertion {
         kind: word_at(case, from),
-        p_slot: slot_of(word_at(case, from + 1)),
+        p_slot: word_at(case, from + 1),
         p_generation: word_at(case, from + 2),
-        q_slot: slot_of(word_at(case, from + 3)),
+        q_slot: word_at(case, from + 3),
         q_generation: word_at(case, from + 4),
         payload: word_at(case, from + 5),
     }

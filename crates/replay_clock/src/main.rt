@@ -15,12 +15,11 @@ use replay_cases::arguments_of;
 use replay_cases::lent_of;
 use replay_cases::next_case;
 use replay_cases::no_call;
-use replay_cases::slots_of;
 use replay_cases::words_of;
 use replay_cases::write_answer;
 use replay_cases::write_arena;
-use replay_cases::write_slots;
 use replay_cases::write_word;
+use replay_cases::write_words;
 
 // Writes the line of a dot.
 fn line_of_dot(case: &[u32; 192]) {
@@ -46,8 +45,8 @@ fn due_count(case: &[u32; 192]) {
     let g = lent_of(case, GENERATION);
     let w = lent_of(case, PAYLOAD);
     let h = lent_of(case, HEADER);
-    let prev = slots_of(case, PREV, p);
-    let next = slots_of(case, NEXT, q);
+    let prev = words_of(case, PREV, p);
+    let next = words_of(case, NEXT, q);
     let generation = words_of(case, GENERATION, g);
     let payload = words_of(case, PAYLOAD, w);
     let header = words_of(case, HEADER, h);
@@ -58,7 +57,7 @@ fn due_count(case: &[u32; 192]) {
         &generation[..g],
         &payload[..w],
         &header[..h],
-        a.slot,
+        a.first,
         a.second,
         a.third,
         a.fourth,
@@ -76,12 +75,12 @@ fn due_events(case: &[u32; 192]) {
     let w = lent_of(case, PAYLOAD);
     let h = lent_of(case, HEADER);
     let m = lent_of(case, LENT);
-    let prev = slots_of(case, PREV, p);
-    let next = slots_of(case, NEXT, q);
+    let prev = words_of(case, PREV, p);
+    let next = words_of(case, NEXT, q);
     let generation = words_of(case, GENERATION, g);
     let payload = words_of(case, PAYLOAD, w);
     let header = words_of(case, HEADER, h);
-    let mut report = slots_of(case, LENT, m);
+    let mut report = words_of(case, LENT, m);
     let a = arguments_of(case);
     let r = chain_arena_due_events(
         &prev[..p],
@@ -89,7 +88,7 @@ fn due_events(case: &[u32; 192]) {
         &generation[..g],
         &payload[..w],
         &header[..h],
-        a.slot,
+        a.first,
         a.second,
         a.third,
         a.fourth,
@@ -97,7 +96,7 @@ fn due_events(case: &[u32; 192]) {
     );
     write_answer(r.answer);
     write_word(r.count);
-    write_slots(report, m);
+    write_words(report, m);
     write_arena(prev, p, next, q, generation, g, payload, w, header, h);
 }
 

@@ -13,11 +13,9 @@ use replay_cases::arguments_of;
 use replay_cases::lent_of;
 use replay_cases::next_case;
 use replay_cases::no_call;
-use replay_cases::slots_of;
 use replay_cases::words_of;
 use replay_cases::write_answer;
 use replay_cases::write_arena;
-use replay_cases::write_slots;
 use replay_cases::write_words;
 
 // Compresses in slot order, with the lent slice for the report.
@@ -28,8 +26,8 @@ fn compress_with(case: &[u32; 192]) {
     let w = lent_of(case, PAYLOAD);
     let h = lent_of(case, HEADER);
     let m = lent_of(case, LENT);
-    let mut prev = slots_of(case, PREV, p);
-    let mut next = slots_of(case, NEXT, q);
+    let mut prev = words_of(case, PREV, p);
+    let mut next = words_of(case, NEXT, q);
     let mut generation = words_of(case, GENERATION, g);
     let mut payload = words_of(case, PAYLOAD, w);
     let mut header = words_of(case, HEADER, h);
@@ -56,12 +54,12 @@ fn compress_canonical(case: &[u32; 192]) {
     let w = lent_of(case, PAYLOAD);
     let h = lent_of(case, HEADER);
     let m = lent_of(case, LENT);
-    let mut prev = slots_of(case, PREV, p);
-    let mut next = slots_of(case, NEXT, q);
+    let mut prev = words_of(case, PREV, p);
+    let mut next = words_of(case, NEXT, q);
     let mut generation = words_of(case, GENERATION, g);
     let mut payload = words_of(case, PAYLOAD, w);
     let mut header = words_of(case, HEADER, h);
-    let mut where_from = slots_of(case, LENT, m);
+    let mut where_from = words_of(case, LENT, m);
     let answer = chain_arena_compress_canonical(
         &mut prev[..p],
         &mut next[..q],
@@ -72,7 +70,7 @@ fn compress_canonical(case: &[u32; 192]) {
         &mut where_from[..m],
     );
     write_answer(answer);
-    write_slots(where_from, m);
+    write_words(where_from, m);
     write_arena(prev, p, next, q, generation, g, payload, w, header, h);
 }
 

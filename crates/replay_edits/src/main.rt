@@ -19,7 +19,6 @@ use replay_cases::arguments_of;
 use replay_cases::lent_of;
 use replay_cases::next_case;
 use replay_cases::no_call;
-use replay_cases::slots_of;
 use replay_cases::words_of;
 use replay_cases::write_answer;
 use replay_cases::write_arena;
@@ -27,8 +26,8 @@ use replay_cases::write_arena;
 // Makes the call of a code that edits interlinks.
 fn edit(
     code: u32,
-    prev: &mut [u16],
-    next: &mut [u16],
+    prev: &mut [u32],
+    next: &mut [u32],
     generation: &[u32],
     payload: &[u32],
     header: &[u32],
@@ -41,22 +40,22 @@ fn edit(
             generation,
             payload,
             header,
-            a.slot,
+            a.first,
             a.second,
-            a.other_slot,
+            a.third,
             a.fourth,
         ),
-        8 => chain_arena_break_prev(prev, next, generation, payload, header, a.slot, a.second),
-        9 => chain_arena_break_next(prev, next, generation, payload, header, a.slot, a.second),
+        8 => chain_arena_break_prev(prev, next, generation, payload, header, a.first, a.second),
+        9 => chain_arena_break_next(prev, next, generation, payload, header, a.first, a.second),
         10 => chain_arena_exchange_next(
             prev,
             next,
             generation,
             payload,
             header,
-            a.slot,
+            a.first,
             a.second,
-            a.other_slot,
+            a.third,
             a.fourth,
         ),
         _ => no_call(),
@@ -66,8 +65,8 @@ fn edit(
 // Makes the call of a code that sets the current generation.
 fn set_generation(
     code: u32,
-    prev: &[u16],
-    next: &[u16],
+    prev: &[u32],
+    next: &[u32],
     generation: &[u32],
     payload: &[u32],
     header: &mut [u32],
@@ -82,8 +81,8 @@ fn set_generation(
 // Makes the call of a code.
 fn call(
     code: u32,
-    prev: &mut [u16],
-    next: &mut [u16],
+    prev: &mut [u32],
+    next: &mut [u32],
     generation: &mut [u32],
     payload: &mut [u32],
     header: &mut [u32],
@@ -103,8 +102,8 @@ fn replay(case: &[u32; 192]) {
     let g = lent_of(case, GENERATION);
     let w = lent_of(case, PAYLOAD);
     let h = lent_of(case, HEADER);
-    let mut prev = slots_of(case, PREV, p);
-    let mut next = slots_of(case, NEXT, q);
+    let mut prev = words_of(case, PREV, p);
+    let mut next = words_of(case, NEXT, q);
     let mut generation = words_of(case, GENERATION, g);
     let mut payload = words_of(case, PAYLOAD, w);
     let mut header = words_of(case, HEADER, h);

@@ -22,7 +22,6 @@ use replay_cases::arguments_of;
 use replay_cases::lent_of;
 use replay_cases::next_case;
 use replay_cases::no_call;
-use replay_cases::slots_of;
 use replay_cases::words_of;
 use replay_cases::write_answer;
 use replay_cases::write_arena;
@@ -68,8 +67,8 @@ fn write_step(r: StepResult) {
 // Makes the call of a code and writes its answer.
 fn call(
     code: u32,
-    prev: &[u16],
-    next: &[u16],
+    prev: &[u32],
+    next: &[u32],
     generation: &[u32],
     payload: &[u32],
     header: &[u32],
@@ -83,7 +82,7 @@ fn call(
             generation,
             payload,
             header,
-            a.slot,
+            a.first,
             a.second,
         )),
         3 => write_link_no_gen(chain_arena_get_link_no_gen(
@@ -92,7 +91,7 @@ fn call(
             generation,
             payload,
             header,
-            a.slot,
+            a.first,
             a.second,
         )),
         4 => write_neighbors(chain_arena_are_neighbors(
@@ -101,9 +100,9 @@ fn call(
             generation,
             payload,
             header,
-            a.slot,
+            a.first,
             a.second,
-            a.other_slot,
+            a.third,
             a.fourth,
         )),
         5 => write_walk(chain_arena_walk_start(
@@ -112,7 +111,7 @@ fn call(
             generation,
             payload,
             header,
-            a.slot,
+            a.first,
             a.second,
         )),
         6 => write_step(chain_arena_walk_step(
@@ -137,8 +136,8 @@ fn replay(case: &[u32; 192]) {
     let g = lent_of(case, GENERATION);
     let w = lent_of(case, PAYLOAD);
     let h = lent_of(case, HEADER);
-    let prev = slots_of(case, PREV, p);
-    let next = slots_of(case, NEXT, q);
+    let prev = words_of(case, PREV, p);
+    let next = words_of(case, NEXT, q);
     let generation = words_of(case, GENERATION, g);
     let payload = words_of(case, PAYLOAD, w);
     let header = words_of(case, HEADER, h);

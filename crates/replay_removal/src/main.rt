@@ -13,7 +13,6 @@ use replay_cases::arguments_of;
 use replay_cases::lent_of;
 use replay_cases::next_case;
 use replay_cases::no_call;
-use replay_cases::slots_of;
 use replay_cases::words_of;
 use replay_cases::write_answer;
 use replay_cases::write_arena;
@@ -28,8 +27,8 @@ fn remove(case: &[u32; 192]) {
     let g = lent_of(case, GENERATION);
     let w = lent_of(case, PAYLOAD);
     let h = lent_of(case, HEADER);
-    let mut prev = slots_of(case, PREV, p);
-    let mut next = slots_of(case, NEXT, q);
+    let mut prev = words_of(case, PREV, p);
+    let mut next = words_of(case, NEXT, q);
     let mut generation = words_of(case, GENERATION, g);
     let mut payload = words_of(case, PAYLOAD, w);
     let mut header = words_of(case, HEADER, h);
@@ -40,7 +39,7 @@ fn remove(case: &[u32; 192]) {
         &mut generation[..g],
         &mut payload[..w],
         &mut header[..h],
-        a.slot,
+        a.first,
         a.second,
     );
     write_link_no_gen(r);
@@ -55,8 +54,8 @@ fn drain(case: &[u32; 192]) {
     let w = lent_of(case, PAYLOAD);
     let h = lent_of(case, HEADER);
     let m = lent_of(case, LENT);
-    let mut prev = slots_of(case, PREV, p);
-    let mut next = slots_of(case, NEXT, q);
+    let mut prev = words_of(case, PREV, p);
+    let mut next = words_of(case, NEXT, q);
     let mut generation = words_of(case, GENERATION, g);
     let mut payload = words_of(case, PAYLOAD, w);
     let mut header = words_of(case, HEADER, h);
@@ -68,7 +67,7 @@ fn drain(case: &[u32; 192]) {
         &mut generation[..g],
         &mut payload[..w],
         &mut header[..h],
-        a.slot,
+        a.first,
         a.second,
         &mut report[..m],
     );

@@ -11,7 +11,6 @@ use replay_cases::PREV;
 use replay_cases::lent_of;
 use replay_cases::next_case;
 use replay_cases::no_call;
-use replay_cases::slots_of;
 use replay_cases::words_of;
 use replay_cases::write_answer;
 use replay_cases::write_arena;
@@ -26,8 +25,8 @@ fn run(case: &[u32; 192]) {
     let h = lent_of(case, HEADER);
     let n = lent_of(case, ARGS);
     let m = lent_of(case, LENT);
-    let mut prev = slots_of(case, PREV, p);
-    let mut next = slots_of(case, NEXT, q);
+    let mut prev = words_of(case, PREV, p);
+    let mut next = words_of(case, NEXT, q);
     let mut generation = words_of(case, GENERATION, g);
     let mut payload = words_of(case, PAYLOAD, w);
     let mut header = words_of(case, HEADER, h);

@@ -37,21 +37,7 @@ fn word_of(packed: u32, weight: u32) -> u32
     packed / weight % 4
 }
 
-// Lays a word of each of the first n slots into prev or next.
-fn lay_links(column: &mut [u16], rows: u32, n: usize, weight: u32)
-    requires { ⌜ (0 < weight) × (n ≤ length (now column)) ⌝ }
-    ensures { λ _. ⌜ now (column .exit) ≡ written (digits weight rows n) (now (column .entry)) ⌝ }
-{
-    let mut rest = rows;
-    let mut i: usize = 0;
-    while i < n {
-        column[i] = word_of(rest, weight) as u16;
-        rest = rest / 256;
-        i += 1;
-    }
-}
-
-// Lays a word of each of the first n slots into generation or payload.
+// Lays a word of each of the first n slots into a column.
 fn lay_words(column: &mut [u32], rows: u32, n: usize, weight: u32)
     requires { ⌜ (0 < weight) × (n ≤ length (now column)) ⌝ }
     ensures { λ _. ⌜ now (column .exit) ≡ written (digits weight rows n) (now (column .entry)) ⌝ }
@@ -79,8 +65,8 @@ fn lay_header(header: &mut [u32], packed: u32)
 
 // Lays a packed arena into columns that have room for it.
 fn lay(
-    prev: &mut [u16],
-    next: &mut [u16],
+    prev: &mut [u32],
+    next: &mut [u32],
     generation: &mut [u32],
     payload: &mut [u32],
     header: &mut [u32],
@@ -91,8 +77,8 @@ fn lay(
 {
     let n = word_of(packed, 1) as usize;
     let rows = packed / 64;
-    lay_links(prev, rows, n, 1);
-    lay_links(next, rows, n, 4);
+    lay_words(prev, rows, n, 1);
+    lay_words(next, rows, n, 4);
     lay_words(generation, rows, n, 16);
     lay_words(payload, rows, n, 64);
     lay_header(header, packed);
@@ -100,8 +86,8 @@ fn lay(
 
 // Lays the small arena of this index into the columns, if there is one (REFERENCE, Small arenas).
 pub fn small_arena(
-    prev: &mut [u16],
-    next: &mut [u16],
+    prev: &mut [u32],
+    next: &mut [u32],
     generation: &mut [u32],
     payload: &mut [u32],
     header: &mut [u32],

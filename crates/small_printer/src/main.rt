@@ -24,18 +24,18 @@ fn print_header(header: &[u32; 4]) {
 }
 
 // The words of a slot, behind a bar.
-fn print_slot(prev: u16, next: u16, generation: u32, payload: u32) {
+fn print_slot(prev: u32, next: u32, generation: u32, payload: u32) {
     io::write_all(STDOUT_FILENO, b" |");
-    print_further(prev as u32);
-    print_further(next as u32);
+    print_further(prev);
+    print_further(next);
     print_further(generation);
     print_further(payload);
 }
 
 // The first n slots.
 fn print_slots(
-    prev: &[u16; 3],
-    next: &[u16; 3],
+    prev: &[u32; 3],
+    next: &[u32; 3],
     generation: &[u32; 3],
     payload: &[u32; 3],
     n: usize,
@@ -51,8 +51,8 @@ fn print_slots(
 
 // The small arena of an index on a line of its own. Answers whether there is one.
 fn print_arena(index: u32) -> bool {
-    let mut prev = [0u16; 3];
-    let mut next = [0u16; 3];
+    let mut prev = [0u32; 3];
+    let mut next = [0u32; 3];
     let mut generation = [0u32; 3];
     let mut payload = [0u32; 3];
     let mut header = [0u32; 4];

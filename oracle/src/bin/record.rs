@@ -7,13 +7,16 @@
 //! it got it. Where the crate has no answer (1, 6, 14, 15, 16 and 19, the lines of a frame, and what else its types cannot hold)
 //! the model's is taken. No exported call has a part in it.
 //!
-//! The cases come from fixed seeds: all arenas of up to five slots that pass the check, random ones of a few slots,
-//! generations around the largest, noise in words that are not read, and damaged arenas. Of each call and each number that
-//! it answers some are kept, and some more of each mark that a case can have, as the kind of an insertion or the side on
-//! which a link is broken. Of the two calls that take no arena every line is there, and the ends of every line.
+//! The first cases of each file are kept as they stand, with their answers made anew, which must be those that are stored: they
+//! were recorded when a slot had 16 bits, and no word of them that names a slot is over 65,535, but in a state, in a command and
+//! for the root. The others come from fixed seeds: all arenas of up to five slots that pass the check, random ones of a few slots,
+//! generations around the largest, noise in words that are not read, damaged arenas, and such with one word raised by a multiple of
+//! 65,536. Of each call and each number that it answers some are kept, and some more of each mark that a case can have, as the kind
+//! of an insertion, the side on which a link is broken or the place of a slot over 65,535; what the first cases have counts.
+//! Of the two calls that take no arena every line is there, and the ends of every line.
 
 use std::cmp::Ordering;
-use std::collections::{BTreeMap, BTreeSet};
+use std::collections::{BTreeMap, BTreeSet, HashSet};
 use std::fs;
 use std::path::{Path, PathBuf};
 
@@ -22,17 +25,17 @@ use oracle::compare::{Outcome, crate_number, crate_outcome, crate_text_found, mo
 use oracle::header::GENERATION;
 use oracle::random::{self, Random};
 use oracle::words::{CALLS_IN_ALL, DUE_COUNT, DUE_EVENTS, LINE_DOTS, LINE_OF_DOT, SMALL_ARENA};
-use oracle::{Arena, COMMAND_WORDS, Call, Ptr, Reading, Reply, cases, frame, kind, model, side};
+use oracle::{Arena, COMMAND_WORDS, CUT, Call, Ptr, Reading, Reply, cases, frame, kind, model, side};
 
-/// The programs, each with the codes of its calls.
-const PROGRAMS: [(&str, &[usize]); 7] = [
-    ("replay_read", &[1, 2, 3, 4, 5, 6]),
-    ("replay_edits", &[7, 8, 9, 10, 13, 14, 15]),
-    ("replay_removal", &[11, 12]),
-    ("replay_run", &[16]),
-    ("replay_compress", &[17, 18]),
-    ("replay_insert", &[19]),
-    ("replay_clock", &[LINE_OF_DOT, LINE_DOTS, DUE_COUNT, DUE_EVENTS]),
+/// The programs, each with the codes of its calls and the number of its first cases, which are kept as they stand.
+const PROGRAMS: [(&str, &[usize], usize); 7] = [
+    ("replay_read", &[1, 2, 3, 4, 5, 6], 838),
+    ("replay_edits", &[7, 8, 9, 10, 13, 14, 15], 1_263),
+    ("replay_removal", &[11, 12], 419),
+    ("replay_run", &[16], 337),
+    ("replay_compress", &[17, 18], 335),
+    ("replay_insert", &[19], 507),
+    ("replay_clock", &[LINE_OF_DOT, LINE_DOTS, DUE_COUNT, DUE_EVENTS], 1_517),
 ];
 
 /// The most slots of a case, and the most words of its arguments or of the slice that it lends.
@@ -42,66 +45,130 @@ const WORDS: usize = 64;
 /// How many cases of each call are tried. Each call has seeds of its own, so that a new call leaves the cases of the others as they are.
 const SEEDS: u64 = 25_000;
 
-/// How many cases of a call with a number are kept at least for each mark, how many if the check refuses the arena, and how
-/// many for each command of a run or kind of an insertion.
+/// How many cases of a call with a number are kept at least for each mark, how many if the check refuses the arena, how many for
+/// each command of a run or kind of an insertion, and how many for each place of a slot over 65,535, if it is right when it is cut.
 const KEPT: usize = 14;
 const KEPT_BROKEN: usize = 3;
 const KEPT_OF_KIND: usize = 3;
+const KEPT_FAR: usize = 2;
 
 fn main() {
     if !crate_text_found() {
         eprintln!("record: the crate's files are not at hand, so nothing was recorded");
         std::process::exit(1);
     }
-    let small: Vec<Vec<Arena>> = (0..=5).map(cases::enumerated).collect();
-    let mut marked: BTreeMap<(usize, u32, Mark), usize> = BTreeMap::new();
-    let mut kept: BTreeMap<(usize, u32), Vec<[String; 2]>> = BTreeMap::new();
-    let mut by_model = 0;
-    let tried = replayed().flat_map(|code| (0..SEEDS).map(move |seed| (code, seed)));
-    for call in lines() {
-        let after = model_outcome(&no_arena(), &call);
-        let case = case_line(&no_arena(), &call).expect("a short line");
-        kept.entry((call.code(), after.reply.number)).or_default().push([case, answer_line(&after)]);
-        by_model += 1;
-    }
-    for (code, seed) in tried.filter(|(code, _)| !matches!(*code, LINE_OF_DOT | LINE_DOTS)) {
-        let mut r = Random::new(((code as u64) << 32) + seed);
-        let mut before = some_arena(&mut r, &small);
-        if matches!(code, DUE_COUNT | DUE_EVENTS) {
-            before = random::with_dots(&mut r, before);
-        }
-        let call = call_of(code, &mut r, &before, &[]);
-        let Some(case) = case_line(&before, &call) else { continue };
-        let answered = crate_answer(&before, &call);
-        let by_crate = answered.is_some();
-        let after = answered.unwrap_or_else(|| model_outcome(&before, &call));
-        let number = after.reply.number;
-        let marks = marks(&before, &after, by_crate);
-        let key = |mark: &Mark| (code, number, *mark);
-        if marks.iter().any(|mark| marked.get(&key(mark)).is_none_or(|&cases| cases < mark.wanted(number))) {
-            marks.iter().for_each(|mark| *marked.entry(key(mark)).or_default() += 1);
-            kept.entry((code, number)).or_default().push([case, answer_line(&after)]);
-            by_model += usize::from(!by_crate);
-        }
-    }
-    for (program, codes) in PROGRAMS {
+    let mut kept = Kept::default();
+    let first: Vec<Vec<[String; 2]>> = PROGRAMS.iter().map(|program| kept.first_of(program)).collect();
+    kept.by_seeds();
+    for ((program, codes, _), first) in PROGRAMS.iter().zip(&first) {
+        let further = kept.chosen.iter().filter(|((code, _), _)| codes.contains(code));
+        let lines: Vec<&[String; 2]> = first.iter().chain(further.flat_map(|(_, cases)| cases)).collect();
         for (file, name) in ["stdin", "stdout"].into_iter().enumerate() {
-            let of_program = kept.iter().filter(|((code, _), _)| codes.contains(code));
-            let lines = of_program.flat_map(|(_, cases)| cases).map(|lines| lines[file].as_str());
-            write(program, name, &lines.collect::<String>());
+            write(program, name, &lines.iter().map(|lines| lines[file].as_str()).collect::<String>());
         }
+        println!(
+            "{program}: {} cases kept as they stand, {} further ones",
+            first.len(),
+            lines.len() - first.len()
+        );
     }
     for code in replayed() {
-        let of_code = kept.iter().filter(|((of, _), _)| *of == code);
-        let numbers: Vec<String> =
-            of_code.map(|((_, number), cases)| format!("{number}: {}", cases.len())).collect();
+        let of_code = kept.numbers.iter().filter(|((of, _), _)| *of == code);
+        let numbers: Vec<String> = of_code.map(|((_, number), cases)| format!("{number}: {cases}")).collect();
         println!("call {code}, cases by number: {}", numbers.join(", "));
     }
-    let all: usize = kept.values().map(Vec::len).sum();
+    let (all, by_model) = (kept.numbers.values().sum::<usize>(), kept.by_model);
     println!(
         "{all} cases in all, {} with the crate's answer and {by_model} with the model's",
         all - by_model
     );
+}
+
+/// The cases that are kept, and what is counted of them.
+#[derive(Default)]
+struct Kept {
+    /// The lines of all cases
+    there: HashSet<String>,
+    /// How many there are of each call, number and mark
+    marked: BTreeMap<(usize, u32, Mark), usize>,
+    /// How many there are of each call and number
+    numbers: BTreeMap<(usize, u32), usize>,
+    /// How many have the model's answer
+    by_model: usize,
+    /// Those that come from seeds, by call and number: the lines of the case and of its answer
+    chosen: BTreeMap<(usize, u32), Vec<[String; 2]>>,
+}
+
+impl Kept {
+    /// Keeps the first cases of a program as they stand, and answers their lines.
+    fn first_of(&mut self, (program, _, count): &(&str, &[usize], usize)) -> Vec<[String; 2]> {
+        let [cases, answers] =
+            ["stdin", "stdout"].map(|name| fs::read_to_string(path(program, name)).expect("a stored file"));
+        let lines = cases.lines().zip(answers.lines()).take(*count);
+        let lines: Vec<[String; 2]> =
+            lines.map(|(case, answer)| [case, answer].map(|line| format!("{line}\n"))).collect();
+        assert_eq!(lines.len(), *count, "{program} has lost stored cases");
+        for [case, answer] in &lines {
+            let (before, call) = case_of(case.trim_end());
+            let (after, by_crate) = answered(&before, &call);
+            assert_eq!(
+                answer_line(&after),
+                *answer,
+                "{program}: another answer than the stored one for {case}"
+            );
+            self.keep(case, &after, by_crate, &marks(&before, &after, by_crate));
+        }
+        lines
+    }
+
+    /// Keeps cases from seeds, each if it has a mark that is not there often enough yet.
+    fn by_seeds(&mut self) {
+        for call in lines() {
+            self.offer(&no_arena(), &call);
+        }
+        let small: Vec<Vec<Arena>> = (0..=5).map(cases::enumerated).collect();
+        let tried = replayed().flat_map(|code| (0..SEEDS).map(move |seed| (code, seed)));
+        for (code, seed) in tried.filter(|(code, _)| !matches!(*code, LINE_OF_DOT | LINE_DOTS)) {
+            let mut r = Random::new(((code as u64) << 32) + seed);
+            let mut before = some_arena(&mut r, &small);
+            if matches!(code, DUE_COUNT | DUE_EVENTS) {
+                before = random::with_dots(&mut r, before);
+            }
+            let call = call_of(code, &mut r, &before, &[]);
+            self.offer(&before, &call);
+        }
+    }
+
+    /// Keeps a case if it is short enough, is not there yet, and has a mark that is not there often enough.
+    fn offer(&mut self, before: &Arena, call: &Call) {
+        let Some(case) = case_line(before, call).filter(|case| !self.there.contains(case)) else { return };
+        let (after, by_crate) = answered(before, call);
+        let (code, number) = (call.code(), after.reply.number);
+        let marks = marks(before, &after, by_crate);
+        let rare = |mark: &Mark| {
+            self.marked.get(&(code, number, *mark)).is_none_or(|&cases| cases < mark.wanted(number))
+        };
+        if !call.takes_arena() || marks.iter().any(rare) {
+            self.keep(&case, &after, by_crate, &marks);
+            self.chosen.entry((code, number)).or_default().push([case, answer_line(&after)]);
+        }
+    }
+
+    /// Counts a case that is kept.
+    fn keep(&mut self, case: &str, after: &Outcome, by_crate: bool, marks: &[Mark]) {
+        let (code, number) = (after.call.code(), after.reply.number);
+        self.there.insert(case.to_string());
+        marks.iter().for_each(|mark| *self.marked.entry((code, number, *mark)).or_default() += 1);
+        *self.numbers.entry((code, number)).or_default() += 1;
+        self.by_model += usize::from(!by_crate);
+    }
+}
+
+/// What a call answers and leaves, and whether it is the crate that says so.
+fn answered(before: &Arena, call: &Call) -> (Outcome, bool) {
+    let by_crate = if call.takes_arena() { crate_answer(before, call) } else { None };
+    let is_crates = by_crate.is_some();
+    (by_crate.unwrap_or_else(|| model_outcome(before, call)), is_crates)
 }
 
 /// The codes of the calls that have stored cases: all but the one that writes a small arena, since the proved program
@@ -117,9 +184,9 @@ fn no_arena() -> Arena {
 
 /// The calls that take no arena: every line, the first and the last dot of every line, and numbers past them.
 fn lines() -> impl Iterator<Item = Call> {
-    let past = [frame::DOTS, frame::DOTS + 1, 65_536 + frame::DOTS, 1 << 31, u32::MAX];
+    let past = [frame::DOTS, frame::DOTS + 1, CUT + frame::DOTS, 1 << 31, u32::MAX];
     let ends = (0..frame::DOTS).filter(|dot| matches!(dot % frame::LINE_DOTS, 0 | 340));
-    let past_lines = [frame::LINES, frame::LINES + 1, 65_535, 65_536, 1 << 31, u32::MAX];
+    let past_lines = [frame::LINES, frame::LINES + 1, CUT - 1, CUT, 1 << 31, u32::MAX];
     let dots = ends.chain(past).map(Call::LineOfDot);
     dots.chain((0..frame::LINES).chain(past_lines).map(Call::LineDots))
 }
@@ -135,17 +202,19 @@ fn write(program: &str, name: &str, text: &str) {
     fs::write(&path, text).unwrap_or_else(|error| panic!("{} could not be written: {error}", path.display()));
 }
 
-/// An arena: small or random, whole or damaged, and mostly with short words where they do not matter.
+/// An arena: small or random, whole or damaged or with one word raised, and mostly with short words where they do not matter.
 fn some_arena(r: &mut Random, small: &[Vec<Arena>]) -> Arena {
-    let mut a = match r.below(4) {
+    let mut a = match r.below(5) {
         0 => random::any_whole(r, 8),
         1 => random::damaged(r, 8),
-        _ => {
+        way => {
             let arenas = &small[r.below(small.len())];
             let generations = [1, 2, 5, u32::MAX - 1, u32::MAX];
             let (a, room) = (&arenas[r.below(arenas.len())], r.below(3));
             let current = r.pick(&generations[1..]);
-            cases::dressed(a, r, room, &generations, current)
+            let a = cases::dressed(a, r, room, &generations, current);
+            let mut raised = if way == 2 { cases::with_raised_words(&a) } else { vec![a] };
+            raised.swap_remove(r.below(raised.len()))
         }
     };
     if !r.once_in(16) {
@@ -220,6 +289,33 @@ enum Mark {
     Report(Room),
     /// A stale pointer or too short a report comes with a window that is none
     BadWindow,
+    /// A slot over 65,535 stands there, and whether it is that of a link or the right one if it is cut to 16 bits
+    Far(Place, bool),
+}
+
+/// Where a slot can stand, or a number of slots.
+#[derive(Clone, Copy, Debug, PartialEq, Eq, PartialOrd, Ord)]
+enum Place {
+    /// In the call's first or second pointer
+    Pointer(usize),
+    /// In the first or second pointer of a command of this code, or of an insertion of this kind
+    Command(u32, usize),
+    /// In a walk's state
+    Start,
+    Position,
+    /// In a link
+    Prev,
+    Next,
+    /// In a free slot
+    FreeNext,
+    /// In the header
+    Root,
+    StackLength,
+    LinkCount,
+    /// Where nobody looks
+    Unread,
+    /// In a slice that the call fills, which does not reach there
+    Left,
 }
 
 /// How many of the links of a chain are due.
@@ -269,6 +365,13 @@ impl Mark {
     /// How many cases of a number are kept at least for it.
     fn wanted(self, number: u32) -> usize {
         match self {
+            Self::Far(_, right) => {
+                if right {
+                    KEPT_FAR
+                } else {
+                    1
+                }
+            }
             _ if (1..=11).contains(&number) => KEPT_BROKEN,
             Self::Kind(..) | Self::Command(..) => KEPT_OF_KIND,
             _ => KEPT,
@@ -283,7 +386,7 @@ fn marks(before: &Arena, after: &Outcome, by_crate: bool) -> Vec<Mark> {
     if !(1..=11).contains(&after.reply.number) {
         let (stack, pointers) = (before.stack(), after.call.pointers());
         let p = pointers.first().copied();
-        let slot = p.map(|p| usize::from(p.slot));
+        let slot = p.map(|p| p.slot as usize);
         let link = slot.filter(|&slot| before.is_link(slot));
         let mut mark = |holds: bool, mark| {
             if holds {
@@ -304,6 +407,66 @@ fn marks(before: &Arena, after: &Outcome, by_crate: bool) -> Vec<Mark> {
     if after.reply.number == 11 {
         marks.extend(marks_of_broken(before, &after.reply));
     }
+    marks.extend(marks_of_far(before, after));
+    marks
+}
+
+/// The marks of slots over 65,535: where the check refuses the arena only of those that it may be refused for.
+fn marks_of_far(before: &Arena, after: &Outcome) -> Vec<Mark> {
+    let mut marks = vec![];
+    let mut see = |numbers: &[u32], word: u32, place: Place, right: &dyn Fn(u32) -> bool| {
+        let passed = !(1..=11).contains(&after.reply.number) && numbers.is_empty();
+        if word >= CUT && (passed || numbers.contains(&after.reply.number)) {
+            marks.push(Mark::Far(place, right(word % CUT)));
+        }
+    };
+    if !after.call.takes_arena() || after.reply.number == 1 {
+        return marks;
+    }
+    let (stack, capacity) = (before.stack().min(before.capacity()), before.capacity());
+    let of_stack = |slot: u32| (1..=stack).contains(&(slot as usize));
+    let link = |slot: u32| of_stack(slot) && before.generation[slot as usize - 1] != 0;
+    for (k, p) in after.call.pointers().into_iter().enumerate() {
+        let place = match &after.call {
+            Call::Insert(kind, ..) if kind::ALL.contains(kind) => Place::Command(*kind, k),
+            _ => Place::Pointer(k),
+        };
+        see(&[], p.slot, place, &link);
+    }
+    match &after.call {
+        Call::WalkStep(walk) => {
+            see(&[], walk.start, Place::Start, &link);
+            see(&[], walk.position, Place::Position, &link);
+        }
+        Call::Run(words, _) if after.reply.number == 0 => {
+            for command in words.chunks_exact(COMMAND_WORDS) {
+                let code = if command[0] <= kind::BRIDGE_INX { command[0] } else { 0 };
+                see(&[], command[1], Place::Command(code, 0), &link);
+                see(&[], command[3], Place::Command(code, 1), &link);
+            }
+        }
+        Call::CompressCanonical(..) | Call::DueEvents(..) => {
+            after.call.lent().last().iter().for_each(|&&word| see(&[], word, Place::Left, &|_| true));
+        }
+        _ => {}
+    }
+    for s in 1..=capacity {
+        let (prev, next) = (before.prev[s - 1], before.next[s - 1]);
+        let names = |column: &[u32], slot: u32| link(slot) && column[slot as usize - 1] as usize == s;
+        if s > stack {
+            see(&[], prev, Place::Unread, &|_| true);
+        } else if before.generation[s - 1] == 0 {
+            see(&[], prev, Place::Unread, &|_| true);
+            see(&[7], next, Place::FreeNext, &|slot| of_stack(slot) && !link(slot));
+        } else {
+            see(&[11], prev, Place::Prev, &|slot| slot == 0 || names(&before.next, slot));
+            see(&[11], next, Place::Next, &|slot| slot == 0 || names(&before.prev, slot));
+        }
+    }
+    let [stack_length, links, root, _] = before.header[..] else { return marks };
+    see(&[5, 7], root, Place::Root, &|slot| slot == 0 || of_stack(slot) && !link(slot));
+    see(&[3], stack_length, Place::StackLength, &|slots| slots as usize <= capacity);
+    see(&[3], links, Place::LinkCount, &|links| links as usize <= capacity);
     marks
 }
 
@@ -357,7 +520,7 @@ fn marks_of_due(before: &Arena, after: &Outcome) -> Vec<Mark> {
         mark(!in_the_frame, Mark::BadWindow);
         return marks;
     }
-    let chain = model::chain_of(before, p.slot.into());
+    let chain = model::chain_of(before, p.slot as usize);
     if let Some(words) = report {
         let room = match words {
             words if words > chain.len() => Room::More,
@@ -416,9 +579,7 @@ fn refusal(before: &Arena, number: u32, call: &Call) -> Reply {
 
 /// The words of the columns and of the header.
 fn columns(a: &Arena) -> Vec<u32> {
-    let links = a.prev.iter().chain(&a.next).map(|&slot| slot.into());
-    let words = a.generation.iter().chain(&a.payload).chain(&a.header).copied();
-    links.chain(words).collect()
+    [&a.prev[..], &a.next, &a.generation, &a.payload, &a.header].concat()
 }
 
 /// The number of slots and the shape of the columns: 0 if they are equal and the header has four words, 1 to 5 if that
@@ -461,6 +622,29 @@ fn case_line(before: &Arena, call: &Call) -> Option<String> {
     Some(line_of(words))
 }
 
+/// Reads a case back from its line.
+fn case_of(line: &str) -> (Arena, Call) {
+    let words: Vec<u32> = line.split(' ').map(|word| word.parse().expect("a number")).collect();
+    let mut rest = &words[..];
+    let mut take = |count: usize| rest.split_off(..count).expect("words enough").to_vec();
+    let (code, c, shape) = (take(1)[0] as usize, take(1)[0] as usize, take(1)[0]);
+    let (mut prev, mut next, mut generation, mut payload) = (take(c), take(c), take(c), take(c));
+    let mut header = take(4);
+    match shape {
+        1 => _ = prev.pop(),
+        2 => _ = next.pop(),
+        3 => _ = generation.pop(),
+        4 => _ = payload.pop(),
+        5 => _ = header.pop(),
+        _ => {}
+    }
+    let count = take(1)[0] as usize;
+    let arguments = take(count);
+    let count = take(1)[0] as usize;
+    let call = Call::of(code, &arguments, take(count)).expect("a call");
+    (Arena { prev, next, generation, payload, header }, call)
+}
+
 /// The line of an answer: number, broken and side, the further fields, then the lent slice, the columns and the header as
 /// they are afterwards; of a call that takes no arena the number and the further fields alone.
 fn answer_line(after: &Outcome) -> String {
@@ -481,30 +665,6 @@ mod tests {
     use oracle::words::calls_on_arenas;
 
     use super::*;
-
-    /// Reads a case back from its line.
-    fn case_of(line: &str) -> (Arena, Call) {
-        let words: Vec<u32> = line.split(' ').map(|word| word.parse().expect("a number")).collect();
-        let mut rest = &words[..];
-        let mut take = |count: usize| rest.split_off(..count).expect("words enough").to_vec();
-        let slots = |words: Vec<u32>| words.into_iter().map(|word| word as u16).collect::<Vec<u16>>();
-        let (code, c, shape) = (take(1)[0] as usize, take(1)[0] as usize, take(1)[0]);
-        let (mut prev, mut next) = (slots(take(c)), slots(take(c)));
-        let (mut generation, mut payload, mut header) = (take(c), take(c), take(4));
-        match shape {
-            1 => _ = prev.pop(),
-            2 => _ = next.pop(),
-            3 => _ = generation.pop(),
-            4 => _ = payload.pop(),
-            5 => _ = header.pop(),
-            _ => {}
-        }
-        let count = take(1)[0] as usize;
-        let arguments = take(count);
-        let count = take(1)[0] as usize;
-        let call = Call::of(code, &arguments, take(count)).expect("a call");
-        (Arena { prev, next, generation, payload, header }, call)
-    }
 
     /// The numbers that the call of a code can answer.
     fn numbers(code: usize) -> Vec<u32> {
@@ -534,7 +694,7 @@ mod tests {
     /// The stored cases and their answers, each case in the program that makes its call.
     fn stored() -> Vec<(String, String)> {
         let mut stored = vec![];
-        for (program, codes) in PROGRAMS {
+        for (program, codes, _) in PROGRAMS {
             let [cases, answers] = ["stdin", "stdout"]
                 .map(|name| fs::read_to_string(path(program, name)).expect("a stored file"));
             assert_eq!(cases.lines().count(), answers.lines().count(), "{program}");
@@ -544,6 +704,73 @@ mod tests {
             );
         }
         stored
+    }
+
+    /// A digest of a text (FNV-1a).
+    fn digest(text: &str) -> u64 {
+        text.bytes()
+            .fold(0xcbf2_9ce4_8422_2325, |sum, byte| (sum ^ u64::from(byte)).wrapping_mul(0x0100_0000_01b3))
+    }
+
+    /// The first cases of each program and their answers are those that were recorded when a slot had 16 bits, byte for byte.
+    #[test]
+    fn the_first_cases_stand_as_they_were_recorded() {
+        const DIGESTS: [(&str, [u64; 2]); 7] = [
+            ("replay_read", [0xc8c4_ca04_a2bc_3d23, 0xc3ee_a18e_3bc0_ad9f]),
+            ("replay_edits", [0x34fa_b860_8bf8_7beb, 0x4316_4336_e386_92e6]),
+            ("replay_removal", [0x8400_835c_8b79_5097, 0xbb73_1bd4_5547_a927]),
+            ("replay_run", [0x11d6_2cdf_8585_c530, 0x3150_0373_ce06_91fe]),
+            ("replay_compress", [0x4a20_e1e8_cb57_98b6, 0x06ab_6115_322a_821b]),
+            ("replay_insert", [0x4bb4_5ceb_49f1_997e, 0x68fb_5f71_93a0_0ae8]),
+            ("replay_clock", [0xbda6_28a6_c1d2_42be, 0xf3be_aad8_e069_d4de]),
+        ];
+        for ((program, _, count), stored) in PROGRAMS.into_iter().zip(DIGESTS) {
+            let found = ["stdin", "stdout"].map(|name| {
+                let text = fs::read_to_string(path(program, name)).expect("a stored file");
+                digest(&text.split_inclusive('\n').take(count).collect::<String>())
+            });
+            assert_eq!((program, found), stored);
+        }
+    }
+
+    /// Slots over 65,535 are there that would be right if they were cut to 16 bits: in each pointer of each call and command, in both
+    /// slots of a state, in links, free slots and header of each call, which is refused for them, and where nobody looks and nothing is written.
+    #[test]
+    fn stored_far_slots_are_of_every_kind() {
+        let mut found = BTreeSet::new();
+        for (case, _) in stored() {
+            let (before, call) = case_of(&case);
+            let after = model_outcome(&before, &call);
+            let marks = marks_of_far(&before, &after).into_iter();
+            found.extend(marks.map(|mark| (call.code(), after.reply.number, mark)));
+        }
+        let right = |place| Mark::Far(place, true);
+        let mut wanted = vec![];
+        for code in calls_on_arenas() {
+            wanted.extend([Place::StackLength, Place::LinkCount].map(|place| (code, 3, right(place))));
+            wanted.extend([5, 7].map(|number| (code, number, right(Place::Root))));
+            wanted.push((code, 7, right(Place::FreeNext)));
+            wanted.extend([Place::Prev, Place::Next].map(|place| (code, 11, right(place))));
+            wanted.push((code, 0, right(Place::Unread)));
+        }
+        let stale =
+            [(2, 12), (3, 12), (4, 0), (5, 12), (7, 12), (8, 12), (9, 12), (10, 12), (11, 12), (12, 12)];
+        for (code, number) in stale.into_iter().chain([DUE_COUNT, DUE_EVENTS].map(|code| (code, 12))) {
+            wanted.push((code, number, right(Place::Pointer(0))));
+            wanted.extend(matches!(code, 4 | 7 | 10).then(|| (code, number, right(Place::Pointer(1)))));
+        }
+        wanted.extend([Place::Start, Place::Position].map(|place| (6, 0, right(place))));
+        wanted.extend([18, DUE_EVENTS].map(|code| (code, 0, right(Place::Left))));
+        for code in 1..=kind::BRIDGE_INX {
+            wanted.extend([0, 1].map(|pointer| (16, 0, right(Place::Command(code, pointer)))));
+        }
+        for (kind, pointer) in kind::ALL.flat_map(|kind| [0, 1].map(|pointer| (kind, pointer))) {
+            let number = if kind::names(kind) > pointer { 17 } else { 0 };
+            wanted.push((19, number, right(Place::Command(kind, pointer))));
+        }
+        for wanted in wanted {
+            assert!(found.contains(&wanted), "{wanted:?}");
+        }
     }
 
     /// Every call is there with every number that it can answer.

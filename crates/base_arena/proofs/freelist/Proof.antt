@@ -18,8 +18,8 @@ Inv-loop next generation n root free visited₀ slot₀ visited slot =
 abbrev μ-loop : tie.MeasureT-loop
 μ-loop next generation n root free visited₀ slot₀ visited slot = n + 2 - visited
 
-returns-6 : tie.Need-returns-6 Inv-loop μ-loop
-returns-6 c =
+returns-7 : tie.Need-returns-7 Inv-loop μ-loop
+returns-7 c =
     let turn : tie.At-loop Inv-loop μ-loop = search in
     walk-ends _ _ _ _ _ (c .loop-test .left) ∙ turn .loop .inv .1
 
@@ -36,14 +36,18 @@ freelist-spec =
     (λ c. search needs)
     (λ c. search needs)
     (λ c. search needs)
+    (λ c. fits-widen tt (c .shared-slice-known .given _))
+    (λ c. search needs)
+    (λ c. search needs)
+    (λ c. search needs)
+    (λ c. search needs)
+    (λ c. search (visit-answers, tests) depth 22)
+    (λ c. search (visit-answers, tests) depth 22)
     (λ c. search (visit-answers, tests) depth 22)
     (λ c. search needs)
     (λ c. search needs)
     (λ c. search needs)
-    (λ c. fits-widen tt (c .shared-slice-known2 .given _))
-    (λ c. search needs)
-    (λ c. search (visit-answers, tests) depth 22)
     (λ c. search (visit-answers, tests) depth 22)
     (λ c. search needs)
     (λ c. (omega arith, search (visit-answers, tests) depth 22))
-    returns-6)
+    returns-7)

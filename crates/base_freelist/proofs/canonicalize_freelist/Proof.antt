@@ -22,8 +22,8 @@ pop-slots-requires c κs =
     let start : tie.Start = search in
     omega (arith, shaped _ _ (start .pre), ends-within _ _ _ (ended .highest-link .ensures), listed .relist .kept)
 
-cast-header-2 : tie.Need-cast-header-2
-cast-header-2 c =
+cast-header : tie.Need-cast-header
+cast-header c =
     let ended : tie.After-highest-link = search in
     let start : tie.Start = search in
     omega (arith, shaped _ _ (start .pre), ends-within _ _ _ (ended .highest-link .ensures))
@@ -46,9 +46,8 @@ canonicalize-freelist-spec =
     (λ c κs. let start : tie.Start = search in omega (arith, shaped _ _ (start .pre)))
     relist-requires
     pop-slots-requires
-    (λ c. search needs)
     (λ c. let start : tie.Start = search in omega (arith, shaped _ _ (start .pre)))
-    cast-header-2
+    cast-header
     (λ c. let start : tie.Start = search in simp length-set (omega (arith, shaped _ _ (start .pre))))
     (λ c. search needs)
     (λ c. search needs)

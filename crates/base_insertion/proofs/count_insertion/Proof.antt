@@ -31,9 +31,7 @@ count-insertion-spec =
     (λ c. search needs)
     (λ c. search needs)
     slice-write-header-2
-    (λ c. search needs)
     (λ c κs. search needs)
-    (λ c. search needs)
     (λ c. search needs)
     (λ c. search needs)
     returns

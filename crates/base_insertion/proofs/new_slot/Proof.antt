@@ -24,11 +24,9 @@ new-slot-spec =
     tie.close
     (tie.spec
     (λ c. search needs)
-    (λ c. search needs)
     returns
     (λ c. search needs)
     (λ c. search needs)
     returns-2
-    (λ c. search needs)
     (λ c. search needs)
     returns-3)

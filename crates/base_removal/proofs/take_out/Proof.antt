@@ -42,7 +42,6 @@ take-out-spec =
     tie.close
     (tie.spec
     (λ c. search needs)
-    (λ c. search needs)
     (λ c κs. search needs)
     (λ c κs. search needs)
     pop-requires

@@ -11,4 +11,6 @@ returns-2 : tie.Need-returns-2
 returns-2 c = search tests depth 10
 
 pub freelist-pointer-spec : {M : Type 1} → statement M
-freelist-pointer-spec = tie.close (tie.spec returns (λ c. search needs) returns-2)
+freelist-pointer-spec = tie.close (tie.spec
+    returns
+    returns-2)

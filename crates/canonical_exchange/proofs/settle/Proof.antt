@@ -5,10 +5,10 @@ use Rattle.canonical_exchange.proofs.settle.Tie as tie
 
 returns : tie.Need-returns
 returns c =
-    let traded : tie.After-trade-slots = search in
+    let traded : tie.After-trade-words = search in
     let second : tie.After-put-at2 = search in
     let first : tie.After-put-at = search in
-    rw (← first .put-at .ensures, ← second .put-at2 .ensures) (traded .trade-slots .ensures)
+    rw (← first .put-at .ensures, ← second .put-at2 .ensures) (traded .trade-words .ensures)
 
 pub settle-spec : {M : Type 1} → statement M
 settle-spec =

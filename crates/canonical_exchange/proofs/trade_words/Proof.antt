@@ -1,4 +1,5 @@
--- `canonical_exchange::trade_words` meets its contract, as `trade_slots` does, by the same laws (Traded). Assumes nothing.
+-- `canonical_exchange::trade_words` meets its contract: two words read and two stored at the places of slots i and t are the definition's exchange of
+-- words (Traded). Assumes nothing.
 use borrow.Author.Needs.{needs}
 use Rattle.canonical_exchange.proofs.Traded.{still-inside, traded}
 use Rattle.canonical_exchange.proofs.trade_words.Statement.{statement}

@@ -16,7 +16,6 @@ drain-item-spec =
     (tie.spec
     (λ c. search needs)
     (λ c. search needs)
-    (λ c. omega arith)
     (λ c κs. search)
     (λ c κs. search)
     (λ c. search)

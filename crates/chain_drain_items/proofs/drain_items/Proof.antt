@@ -5,7 +5,7 @@ use native.Mathlib.Omega.{arith}
 use borrow.Author.Needs.{needs}
 use Rattle.base_slots.proofs.Removable.{removable}
 use Rattle.definitions.specs.Arena.{arena, capacityLimit, largestGeneration}
-use Rattle.chain_drain_items.proofs.Draining.{Draining, draining-starts, draining-ends, next-link, next-small, next-room, draining-goes-on}
+use Rattle.chain_drain_items.proofs.Draining.{Draining, draining-starts, draining-ends, next-link, next-room, draining-goes-on}
 use Rattle.chain_drain_items.proofs.drain_items.Statement.{statement}
 use Rattle.chain_drain_items.proofs.drain_items.Tie as tie
 
@@ -25,7 +25,7 @@ drain-item-requires c κs =
     let at : tie.At-loop Inv-loop μ-loop = search in
     let inv = at .loop .inv in
     let next = more .loop-test .taken in
-    (removable _ _ (inv .rest .arena) (next-link inv next), (next-small inv next, next-room inv next))
+    (removable _ _ (inv .rest .arena) (next-link inv next), next-room inv next)
 
 add-item : tie.Need-add-item Inv-loop μ-loop
 add-item c =

@@ -22,7 +22,6 @@ report-link-spec =
     (tie.spec
     (λ c. search needs)
     (λ c. search needs)
-    (λ c. search needs)
     (λ c κs. search)
     (λ c. search needs)
     (λ c. search needs)
@@ -30,10 +29,8 @@ report-link-spec =
     (λ c κs. search)
     (λ c. search needs)
     (λ c. search needs)
-    (λ c. search needs)
     (λ c. simp length-set (omega arith))
     (λ c κs. search)
-    (λ c. search needs)
     (λ c. search needs)
     (λ c. search needs)
     (λ c. simp length-set (omega arith))

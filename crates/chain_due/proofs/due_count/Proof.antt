@@ -3,7 +3,8 @@ use borrow.Author.Needs.{needs}
 use Rattle.definitions.specs.Arena.{Arena}
 use Rattle.definitions.specs.Lent.{lent}
 use Rattle.definitions.proofs.Tests.{came-true, came-false}
-use Rattle.chain_ahead.proofs.Started.{StartedAt, started}
+use Rattle.chain_ahead.proofs.Started.{StartedAt, started, started-on-chain}
+use Rattle.well_formed.proofs.WellFormed.{shape-if-well-formed}
 use Rattle.chain_traits.specs.Read.{pointerOf}
 use Rattle.chain_due.specs.Due.{IsWindow}
 use Rattle.chain_due.proofs.Answers.{count-stale, count-no-window, count-done}
@@ -45,8 +46,11 @@ module _ (on : tie.Else1) where
   ends = let asked : tie.After-is-window = search in came-true _ _ (asked .is-window .ensures) (on .if1 .left)
 
 due-ahead-requires : tie.Need-due-ahead-requires
-unfolding begun
-due-ahead-requires c κs = let on : tie.Else1 = search in (begun on .pre, ends on)
+unfolding begun start
+due-ahead-requires c κs =
+    let on : tie.Else1 = search in
+    let arm : tie.After-walk = search in
+    (begun on .pre, (ends on, started-on-chain (walk arm)))
 
 returns-3 : tie.Need-returns-3
 unfolding start begun
@@ -60,7 +64,7 @@ pub due-count-spec : {M : Type 1} → statement M
 due-count-spec =
     tie.close
     (tie.spec
-    (λ c κs. search needs)
+    (λ c κs. let start : tie.Start = search in shape-if-well-formed _ _ (start .pre))
     (λ c. search needs)
     (λ c. search needs)
     returns

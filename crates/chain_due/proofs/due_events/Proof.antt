@@ -4,7 +4,8 @@ use borrow.Author.Tests.{ltb-false}
 use Rattle.definitions.specs.Arena.{Arena}
 use Rattle.definitions.specs.Lent.{lent}
 use Rattle.definitions.proofs.Tests.{came-true, came-false, said-true, said-false}
-use Rattle.chain_ahead.proofs.Started.{StartedAt, started}
+use Rattle.chain_ahead.proofs.Started.{StartedAt, started, started-on-chain}
+use Rattle.well_formed.proofs.WellFormed.{shape-if-well-formed}
 use Rattle.chain_traits.specs.Read.{pointerOf}
 use Rattle.chain_due.specs.Due.{IsWindow}
 use Rattle.chain_due.proofs.Answers.{events-stale, events-no-window, events-short, events-done}
@@ -55,12 +56,13 @@ returns-3 c =
     events-short (walk arm) _ (ends on) _ (said-true _ _ (asked .too-few .ensures) (few .if2 .taken))
 
 list-due-requires : tie.Need-list-due-requires
-unfolding begun
+unfolding begun start
 list-due-requires c κs =
     let room : tie.Else2 = search in
     let asked : tie.After-too-few = search in
     let on : tie.Else1 = search in
-    (begun on .pre, (ends on, ltb-false _ _ (said-false _ _ (asked .too-few .ensures) (room .if2 .left))))
+    let arm : tie.After-walk = search in
+    (begun on .pre, (ends on, (ltb-false _ _ (said-false _ _ (asked .too-few .ensures) (room .if2 .left)), started-on-chain (walk arm))))
 
 returns-4 : tie.Need-returns-4
 unfolding start begun
@@ -76,13 +78,13 @@ pub due-events-spec : {M : Type 1} → statement M
 due-events-spec =
     tie.close
     (tie.spec
-    (λ c κs. search needs)
+    (λ c κs. let start : tie.Start = search in shape-if-well-formed _ _ (start .pre))
     (λ c. search needs)
     (λ c. search needs)
     returns
     (λ c κs. search needs)
     returns-2
-    (λ c κs. search needs)
+    (λ c κs. let start : tie.Start = search in shape-if-well-formed _ _ (start .pre))
     returns-3
     list-due-requires
     (λ c. search needs)

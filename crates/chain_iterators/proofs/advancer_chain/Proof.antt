@@ -15,6 +15,4 @@ advancer-chain-spec =
     (λ c κs. search needs)
     (λ c. search reads depth 20)
     (λ c. search needs)
-    (λ c. search needs)
-    (λ c. search needs)
     (λ c. search reads depth 20))

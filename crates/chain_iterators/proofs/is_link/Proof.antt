@@ -27,6 +27,5 @@ is-link-spec =
     (tie.spec
     returns
     returns-2
-    (λ c. search needs)
     (λ c κs. search needs)
     returns-3)

@@ -17,7 +17,5 @@ prev-of-spec =
     (tie.spec
     (λ c κs. search needs)
     (λ c. search tests depth 10)
-    (λ c. let asked : tie.After-is-link = search in omega (arith, link-slot _ _ _ (came-true _ _ (asked .is-link .ensures) (c .if1 .left))))
     (λ c κs. let asked : tie.After-is-link = search in omega (arith, link-slot _ _ _ (came-true _ _ (asked .is-link .ensures) (c .if1 .left))))
-    (λ c. search needs)
     returns-2)

@@ -1,16 +1,9 @@
 -- `compress_moves::new_slot` meets its contract: the word of slot s has index s - 1, and slot 0 reads 0. Assumes nothing.
 use mathlib.Core.Path.{sym}
-use native.Mathlib.Omega.{arith}
 use borrow.Author.Needs.{needs}
 use Rattle.definitions.proofs.Columns.{at-zero, at-place}
 use Rattle.compress_moves.proofs.new_slot.Statement.{statement}
 use Rattle.compress_moves.proofs.new_slot.Tie as tie
-
-cast-result : tie.Need-cast-result
-cast-result c =
-    let some : tie.Else1 = search in
-    let start : tie.Start = search in
-    omega (arith, at-place (start .args .numbers .now) (start .args .s) (some .if1 .left))
 
 pub new-slot-spec : {M : Type 1} → statement M
 new-slot-spec =
@@ -20,5 +13,4 @@ new-slot-spec =
     (λ c. search needs)
     (λ c. search needs)
     (λ c. search needs)
-    cast-result
     (λ c. let some : tie.Else1 = search in at-place _ _ (some .if1 .left)))

@@ -122,7 +122,7 @@ root-whole a = refl
 pub current-whole : (a : Arena) → current a ≡ getD (a .header) 3 0
 current-whole a = refl
 
-pub capacity-limit-whole : capacityLimit ≡ 65535
+pub capacity-limit-whole : capacityLimit ≡ 1048576
 capacity-limit-whole = refl
 
 pub largest-generation-whole : largestGeneration ≡ 4294967295

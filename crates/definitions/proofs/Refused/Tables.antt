@@ -14,8 +14,8 @@ use Rattle.definitions.specs.Lines as lines
 -- what a row's calls answer, and the arena that they leave
 abbrev answered : cases.Row → cases.Answer
 answered row = record {
-  answers = map (λ (r : Reply). r .number ∷ r .fields ++ r .back) (repliesTo 65535 4294967295 (row .calls) (row .start));
-  left = arenaAfter 65535 4294967295 (row .calls) (row .start);
+  answers = map (λ (r : Reply). r .number ∷ r .fields ++ r .back) (repliesTo 1048576 4294967295 (row .calls) (row .start));
+  left = arenaAfter 1048576 4294967295 (row .calls) (row .start);
 }
 
 abbrev stored : cases.Row → cases.Answer
@@ -25,7 +25,7 @@ pub marked-cases-whole : (length cases.rows ≡ 12) × (map answered cases.rows 
 unfolding cases.rows
 marked-cases-whole = (refl, cases.marked-cases)
 
-pub corners-hold-whole : (length cases.corners ≡ 27) × (map answered cases.corners ≡ map stored cases.corners)
+pub corners-hold-whole : (length cases.corners ≡ 28) × (map answered cases.corners ≡ map stored cases.corners)
 unfolding cases.corners
 corners-hold-whole = (refl, cases.corners-hold)
 

@@ -2,7 +2,7 @@
 use mathlib.Core.Path.{_∙_}
 use borrow.Author.Needs.{needs}
 use Rattle.definitions.specs.Calls.{accepted}
-use Rattle.answers.proofs.Exports.{answers-told, answers-refused, is-shaped}
+use Rattle.answers.proofs.Exports.{answers-told, answers-refused, whole}
 use Rattle.level_one_due.proofs.chain_arena_due_count.Statement.{statement}
 use Rattle.level_one_due.proofs.chain_arena_due_count.Tie as tie
 
@@ -15,7 +15,7 @@ due-count-requires : tie.Need-due-count-requires
 due-count-requires c κs =
     let on : tie.Else1 = search in
     let found : tie.After-checked = search in
-    is-shaped (found .checked .ensures) (on .if1 .left)
+    whole (found .checked .ensures) (on .if1 .left)
 
 returns-2 : tie.Need-returns-2
 unfolding accepted

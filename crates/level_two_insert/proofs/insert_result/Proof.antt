@@ -39,7 +39,6 @@ insert-result-spec =
     (λ c. search needs)
     (λ c. search needs)
     (λ c. search needs)
-    (λ c. search needs)
     returns
     returns-2
     returns-3

@@ -42,7 +42,6 @@ advance-spec =
     (λ c κs. search needs)
     (λ c κs. search needs)
     returns-2
-    (λ c. let link : tie.Else2 = search in let asked : tie.After-is-link = search in omega (arith, link-slot _ _ _ (came-true _ _ (asked .is-link .ensures) (link .if2 .left))))
     (λ c κs. let link : tie.Else2 = search in let asked : tie.After-is-link = search in omega (arith, link-slot _ _ _ (came-true _ _ (asked .is-link .ensures) (link .if2 .left))))
     onward-requires
     returns-3)

@@ -41,13 +41,10 @@ pub onward-spec : {M : Type 1} → statement M
 onward-spec =
     tie.close
     (tie.spec
-    (λ c. let start : tie.Start = search in omega (arith, link-slot _ _ _ (start .pre .1 .0)))
     (λ c κs. let start : tie.Start = search in omega (arith, link-slot _ _ _ (start .pre .1 .0)))
-    (λ c. search needs)
     (λ c κs. search needs)
     returns
     (λ c κs. let start : tie.Start = search in omega (arith, link-slot _ _ _ (start .pre .1 .0)))
-    (λ c. search needs)
     (λ c. search needs)
     (λ c. search needs)
     (λ c κs. search needs)
