@@ -346,7 +346,7 @@ fn digest(text: &str) -> u64 {
 fn no_row_of_a_computed_table_is_exchanged_for_another() {
     // whoever changes a row, or what a row means, changes its file's number here
     for (file, rows, number) in [
-        ("Cases.antt", 39, 0x91d60ddb9fb356af),
+        ("Cases.antt", 40, 0xaf6f06f524ffb3ef),
         ("Insertions.antt", 43, 0x32836b0d3ebd1cdf),
         ("Refusals.antt", 58, 0xaea7dc4d82a02594),
         ("Lines.antt", 19, 0xb03fb643eab3fd34),
