@@ -4,8 +4,8 @@ ghost use lib.Dec.{ltb};
 ghost use lib.ListN.{length};
 ghost use Rattle.definitions.specs.Arena.{capacityLimit};
 ghost use Rattle.definitions.specs.Lent.{lent, atEntry};
-ghost use Rattle.definitions.proofs.Shaped.{Shaped};
-ghost use Rattle.chain_iterators.specs.Walk.{walkOf};
+ghost use Rattle.definitions.specs.Check.{WellFormed};
+ghost use Rattle.chain_iterators.specs.Walk.{walkOf, OnChain};
 ghost use Rattle.chain_ahead.specs.Ahead.{slotsAhead};
 use chain_iterators::ChainPtrAdvancer;
 
@@ -18,12 +18,13 @@ pub fn links_ahead(
     header: &[u32],
     mut walk: ChainPtrAdvancer,
 ) -> u32
-    requires { ⌜ Shaped capacityLimit (lent prev next generation payload header) ⌝ }
+    requires { ⌜ WellFormed capacityLimit (lent prev next generation payload header) ⌝ }
+    requires { ⌜ OnChain (lent prev next generation payload header) (walk .ptr) ⌝ }
     ensures { λ r. ⌜ r ≡ length (slotsAhead (atEntry prev next generation payload header) (walkOf walk)) ⌝ }
 {
     let mut links: u32 = 0;
     loop {
-        let step = walk.advance(prev, next, generation, payload, header);
+        let step = walk.advance_on_chain(prev, next, generation, payload, header);
         if step.slot == 0 {
             return links;
         }
@@ -43,7 +44,8 @@ pub fn too_few(
     walk: ChainPtrAdvancer,
     room: usize,
 ) -> bool
-    requires { ⌜ Shaped capacityLimit (lent prev next generation payload header) ⌝ }
+    requires { ⌜ WellFormed capacityLimit (lent prev next generation payload header) ⌝ }
+    requires { ⌜ OnChain (lent prev next generation payload header) (walk .ptr) ⌝ }
     ensures { λ r. ⌜ r ≡ ltb room (length (slotsAhead (atEntry prev next generation payload header) (walkOf walk))) ⌝ }
 {
     if walk.max_advances as usize <= room {

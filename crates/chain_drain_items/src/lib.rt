@@ -7,9 +7,9 @@ ghost use lib.Dec.{eqb, ltb};
 ghost use lib.ListN.{length, getD};
 ghost use Rattle.definitions.specs.Arena.{arena, capacityLimit, largestGeneration};
 ghost use Rattle.definitions.specs.Lent.{lent, atEntry, atExit};
-ghost use Rattle.definitions.proofs.Shaped.{Shaped};
+ghost use Rattle.definitions.specs.Check.{WellFormed};
 ghost use Rattle.base_slots.specs.Removal.{Stands, Removable};
-ghost use Rattle.chain_iterators.specs.Walk.{walkOf};
+ghost use Rattle.chain_iterators.specs.Walk.{walkOf, OnChain};
 ghost use Rattle.chain_ahead.specs.Ahead.{slotsAhead};
 ghost use Rattle.drains.specs.Drainable.{Drainable};
 ghost use Rattle.definitions.specs.Report.{itemSlots};
@@ -31,7 +31,8 @@ pub fn too_short(
     walk: ChainPtrAdvancer,
     room: usize,
 ) -> bool
-    requires { ⌜ Shaped capacityLimit (lent prev next generation payload header) ⌝ }
+    requires { ⌜ WellFormed capacityLimit (lent prev next generation payload header) ⌝ }
+    requires { ⌜ OnChain (lent prev next generation payload header) (walk .ptr) ⌝ }
     ensures { λ r. ⌜ r ≡ ltb room (5 * length (slotsAhead (atEntry prev next generation payload header) (walkOf walk))) ⌝ }
 {
     too_few(prev, next, generation, payload, header, walk, room / 5)
@@ -47,14 +48,15 @@ pub fn list_slots(
     mut walk: ChainPtrAdvancer,
     report: &mut [u32],
 ) -> u32
-    requires { ⌜ Shaped capacityLimit (lent prev next generation payload header) ⌝ }
+    requires { ⌜ WellFormed capacityLimit (lent prev next generation payload header) ⌝ }
     requires { ⌜ 5 * length (slotsAhead (lent prev next generation payload header) (walkOf walk)) ≤ length (now report) ⌝ }
+    requires { ⌜ OnChain (lent prev next generation payload header) (walk .ptr) ⌝ }
     ensures { λ r. ⌜ Listed (slotsAhead (atEntry prev next generation payload header) (walkOf walk))
         (now (report .entry)) (now (report .exit)) r ⌝ }
 {
     let mut items: u32 = 0;
     loop {
-        let step = walk.advance(prev, next, generation, payload, header);
+        let step = walk.advance_on_chain(prev, next, generation, payload, header);
         if step.slot == 0 {
             return items;
         }

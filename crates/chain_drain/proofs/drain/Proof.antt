@@ -8,7 +8,7 @@ use Rattle.definitions.specs.Lent.{lent}
 use Rattle.chain_iterators.specs.Walk.{walkOf}
 use Rattle.chain_traits.specs.Read.{pointerOf}
 use Rattle.chain_ahead.specs.Ahead.{slotsAhead}
-use Rattle.chain_ahead.proofs.Started.{StartedAt, started}
+use Rattle.chain_ahead.proofs.Started.{StartedAt, started, started-on-chain}
 use Rattle.chain_drain.proofs.Answers.{drain-none, drain-short, has-room, listed-room, drain-can, drain-done}
 use Rattle.well_formed.proofs.WellFormed.{shape-if-well-formed}
 use Rattle.chain_drain.proofs.drain.Statement.{statement}
@@ -45,7 +45,7 @@ returns c =
 
 too-short-requires : tie.Need-too-short-requires
 unfolding start
-too-short-requires c κs = let arm : tie.After-started = search in shape-if-well-formed _ _ (start arm .pre)
+too-short-requires c κs = let arm : tie.After-started = search in (start arm .pre, started-on-chain (walk arm))
 
 returns-2 : tie.Need-returns-2
 unfolding start
@@ -56,7 +56,7 @@ returns-2 c =
 
 list-slots-requires : tie.Need-list-slots-requires
 unfolding arm start
-list-slots-requires c κs = let on : tie.Else1 = search in (shape-if-well-formed _ _ (start (arm on) .pre), room on)
+list-slots-requires c κs = let on : tie.Else1 = search in (start (arm on) .pre, (room on, started-on-chain (walk (arm on))))
 
 drain-items-requires : tie.Need-drain-items-requires
 unfolding arm start

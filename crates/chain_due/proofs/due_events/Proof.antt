@@ -46,6 +46,13 @@ module _ (on : tie.Else1) where
   unfolding begun
   ends = let asked : tie.After-is-window = search in came-true _ _ (asked .is-window .ensures) (on .if1 .left)
 
+too-few-requires : tie.Need-too-few-requires
+unfolding begun start
+too-few-requires c κs =
+    let on : tie.Else1 = search in
+    let arm : tie.After-walk = search in
+    (begun on .pre, started-on-chain (walk arm))
+
 returns-3 : tie.Need-returns-3
 unfolding start begun
 returns-3 c =
@@ -84,7 +91,7 @@ due-events-spec =
     returns
     (λ c κs. search needs)
     returns-2
-    (λ c κs. let start : tie.Start = search in shape-if-well-formed _ _ (start .pre))
+    too-few-requires
     returns-3
     list-due-requires
     (λ c. search needs)
