@@ -1,4 +1,6 @@
 // The check of slots and freelist (arena/base_arena.rs, `_check_invariants`): refusals 1 to 10 of a lent arena.
+#![tactic(auto)]
+
 ghost use Rattle.std.specs.Prelude.{◌≡◌, ◌+◌, ◌≤◌, length};
 ghost use Rattle.definitions.specs.Arena.{capacity_limit, link_slots, free_slots};
 ghost use Rattle.definitions.specs.Lent.{at_entry};

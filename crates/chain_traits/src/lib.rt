@@ -1,4 +1,6 @@
 // Reading links and neighbours (chain/chain_traits.rs) of an arena that passed the check.
+#![tactic(auto)]
+
 ghost use Rattle.std.specs.Prelude.{◌≡◌, [], ◌≤◌, length};
 ghost use Rattle.definitions.specs.Columns.{at};
 ghost use Rattle.definitions.specs.Arena.{capacity_limit};
@@ -14,14 +16,14 @@ use links::{Link, LinkNoGen};
 use ptr::{Gen, Ptr, Slot};
 
 // What reading a link finds at a pointer.
-#[derive(Drop)]
+#[derive(Clone, Copy)]
 pub enum GotLink {
     Found(Link),
     Stale,
 }
 
 // What reading a link without its neighbours' generations finds at a pointer.
-#[derive(Drop)]
+#[derive(Clone, Copy)]
 pub enum GotLinkNoGen {
     Found(LinkNoGen),
     Stale,

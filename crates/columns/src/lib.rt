@@ -1,4 +1,6 @@
 // A slot's word in a lent column: that of slot s has index s - 1 (REFERENCE, Arena).
+#![tactic(auto)]
+
 ghost use Rattle.std.specs.Prelude.{◌≡◌, ◌≤◌, ◌<◌, length};
 ghost use Rattle.definitions.specs.Columns.{at, put};
 

@@ -1,4 +1,6 @@
 // Links as they are answered (chain/links.rs): payload and interlinks, with and without generations.
+#![tactic(auto)]
+
 ghost use Rattle.std.specs.Prelude.{◌≡◌, List, ℕ};
 ghost use Rattle.definitions.specs.Arena.{Arena};
 ghost use Rattle.links.specs.Links.{removal_reply};
@@ -6,7 +8,7 @@ ghost use Rattle.links.specs.Links.{removal_reply};
 use ptr::{Ptr, Slot};
 
 // A link whose interlinks are slots; slot 0 where there is no neighbour.
-#[derive(Drop)]
+#[derive(Clone, Copy)]
 pub struct LinkNoGen {
     pub prev: Slot,
     pub next: Slot,
@@ -14,7 +16,7 @@ pub struct LinkNoGen {
 }
 
 // A link whose interlinks are pointers; slot 0 and generation 0 where there is no neighbour.
-#[derive(Drop)]
+#[derive(Clone, Copy)]
 pub struct Link {
     pub prev: Ptr,
     pub next: Ptr,
@@ -39,7 +41,7 @@ impl Link {
 }
 
 // The answer of a removal: the link as it was, with or without generation overflow, or none for a stale pointer.
-#[derive(Drop)]
+#[derive(Clone, Copy)]
 pub enum InvalidationResult {
     Success(LinkNoGen),
     GenerationOverflow(LinkNoGen),

@@ -1,26 +1,28 @@
 // Pointers and generations (fundamental/ptr.rs and extra.rs), for the one instance of 32-bit slots and generations.
+#![tactic(auto)]
+
 ghost use Rattle.std.specs.Prelude.{◌≡◌};
 ghost use Rattle.definitions.specs.Arena.{largest_generation};
 ghost use Rattle.definitions.specs.Edit.{next_generation, overflows, done_number};
 ghost use Rattle.ptr.specs.Extra.{invalidation_number};
 
 // A slot number; 0 where there is none.
-#[derive(Drop)]
+#[derive(Clone, Copy)]
 pub struct Slot(pub u32);
 
 // A generation; a free slot has 0.
-#[derive(Drop)]
+#[derive(Clone, Copy)]
 pub struct Gen(pub u32);
 
 // A slot together with a generation (REFERENCE, Pointers and generations).
-#[derive(Drop)]
+#[derive(Clone, Copy)]
 pub struct Ptr {
     pub inx: Slot,
     pub generation: Gen,
 }
 
 // The generation that follows another, and whether it overflowed.
-#[derive(Drop)]
+#[derive(Clone, Copy)]
 pub struct GenerationalInc {
     pub generation: Gen,
     pub overflow: bool,
@@ -49,7 +51,7 @@ impl Gen {
 }
 
 // The answer of an operation that always succeeds: whether the generation overflowed.
-#[derive(Drop)]
+#[derive(Clone, Copy)]
 pub enum InvalidationOption {
     Success,
     GenerationOverflow,

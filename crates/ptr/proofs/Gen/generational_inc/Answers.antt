@@ -3,14 +3,12 @@
 use borrow.Author.Rules.{rules}
 use Rattle.definitions.specs.Edit.{next_generation, overflows}
 use Rattle.definitions.proofs.Tests.{tests}
-use Rattle.ptr.proofs.Gen.generational_inc.Statement.{statement}
-use Rattle.ptr.proofs.Gen.generational_inc.Tie as tie
+use Rattle.ptr.proofs.Gen.generational_inc.Goals as goal
 
-pub generational-inc-spec : {M : Type 1} → statement M
+pub returns-then-g : goal.returns-then-g
 unfolding next_generation overflows
-generational-inc-spec =
-    tie.close
-    (tie.spec
-    (λ c. search tests depth 10)
-    (λ c. search rules)
-    (λ c. search tests depth 10))
+returns-then-g c = search tests depth 10
+
+pub returns : goal.returns
+unfolding next_generation overflows
+returns c = search tests depth 10
