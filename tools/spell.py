@@ -23,6 +23,12 @@ WORD = r"[^\s(){}\[\],;.:`]+"
 DECLARED = re.compile(rf"^(\s*)((?:(?:pub|abbrev|unfoldable)\s+)*)({WORD})\s+:(?:\s|$)")
 HEAD = re.compile(r"^\s*(?:pub\s+)?(record|data)\s")
 OF_FUNCTION = ("Proof.antt", "Answers.antt", "Invariants.antt")
+
+
+def of_function(path):
+    return os.path.basename(path) in OF_FUNCTION and os.path.basename(os.path.dirname(path)) not in ("specs", "proofs")
+
+
 # A definition that would fall on a field of its own module.
 KEPT_APART = {"lentOn": "lent_part", "map-map": "map-map"}
 
@@ -61,7 +67,7 @@ def declared():
             if not m:
                 continue
             name = m[3]
-            if os.path.basename(path) in OF_FUNCTION:
+            if of_function(path):
                 continue
             plain.add(name)
             kind = "definition" if "abbrev" in m[2] or "unfoldable" in m[2] else "lemma"
@@ -118,9 +124,9 @@ def turn_backticks(text, to):
     return re.sub(r"`([^`\n]+)`", lambda m: "`" + turn_code(m[1], to, set(), set()) + "`", text)
 
 
-def turn_antt(text, to, fields, of_function):
+def turn_antt(text, to, fields, alone):
     own = set()
-    if of_function:
+    if alone:
         own = {m[3] for m in map(DECLARED.match, text.split("\n")) if m}
     # modules that the file brings under a short name
     short = set(re.findall(r"^(?:pub )?use \S+ as (\S+)$", text, re.M)) - {"tie", "goal"}
@@ -154,7 +160,7 @@ def main():
         return
     for path in antt_files():
         text = read(path)
-        new = turn_antt(text, to, fields, os.path.basename(path) in OF_FUNCTION)
+        new = turn_antt(text, to, fields, of_function(path))
         if new != text:
             with open(path, "w", encoding="utf-8") as f:
                 f.write(new)

@@ -1,4 +1,6 @@
 // What every exported call on an arena has in common: the check that it makes first, and the words that its result begins with.
+#![tactic(auto)]
+
 ghost use Rattle.std.specs.Prelude.{◌≡◌};
 ghost use Rattle.definitions.specs.Lent.{at_entry};
 ghost use Rattle.answers.specs.Answered.{Verdict};
@@ -8,7 +10,7 @@ use chain_arena::check;
 // What the result of every exported call on an arena begins with: its number, and with 11 the lowest slot at which that rule fails and the side, 1 for prev and 2 for next; in every
 // other case slot and side are 0 (REFERENCE, Replies).
 #[repr(C)]
-#[derive(Drop)]
+#[derive(Clone, Copy)]
 pub struct Answer {
     pub number: u32,
     pub broken: u32,
@@ -30,7 +32,7 @@ impl Answer {
 
 // A link, as it is or as it was when it was removed; slot 0 where there is no neighbour.
 #[repr(C)]
-#[derive(Drop)]
+#[derive(Clone, Copy)]
 pub struct LinkNoGenResult {
     pub answer: Answer,
     pub prev: u32,

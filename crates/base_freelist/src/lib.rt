@@ -1,21 +1,22 @@
 // Generations and the freelist of the arena under the chains (arena/base_arena.rs), in columns that the caller lends.
+#![tactic(auto)]
+
 ghost use Rattle.std.specs.Prelude.{◌≡◌, List, [], ℕ, ◌≤◌, length};
 ghost use Rattle.definitions.specs.Columns.{first_or, last_or};
 ghost use Rattle.definitions.specs.Arena.{arena, capacity_limit, largest_generation, header_words, link_slots, free_slots};
-ghost use Rattle.definitions.specs.Lent.{lent, at_entry, at_exit};
 ghost use Rattle.definitions.specs.Check.{verdict};
 ghost use Rattle.definitions.specs.Reply.{reply};
 ghost use Rattle.definitions.specs.Edit.{set_generation, inc_generation};
 ghost use Rattle.definitions.specs.Remove.{threaded, canonicalize_freelist};
 ghost use Rattle.ptr.specs.Extra.{invalidation_number};
-ghost use Rattle.base_freelist.specs.Answers.{generationSetNumber};
+ghost use Rattle.base_freelist.specs.Answers.{generation_set_number};
 ghost use Rattle.base_freelist.specs.Popped.{popped};
 
 use header::{CURRENT_GENERATION, ROOT, STACK_LENGTH};
 use ptr::{Gen, InvalidationOption};
 
 // What became of a generation that was to be set.
-#[derive(Drop)]
+#[derive(Clone, Copy)]
 pub enum GenerationSet {
     Done,
     BelowTwo,
@@ -24,7 +25,7 @@ pub enum GenerationSet {
 impl GenerationSet {
     // The number of the answer (REFERENCE, Numbers).
     pub fn number(self) -> u32
-        ensures { result ≡ generationSetNumber self }
+        ensures { result ≡ generation_set_number self }
     {
         match self {
             GenerationSet::Done => 0,
@@ -36,7 +37,7 @@ impl GenerationSet {
 // Makes g the current generation of the arena with this header. 0 and 1 are refused, which the crate does not do (docs/DIFFERENCES.md).
 pub fn set_generation(header: &mut [u32], g: Gen) -> GenerationSet
     requires { length header.old ≡ header_words }
-    ensures { (ps ns gs vs : List ℕ) → reply (generationSetNumber result) [] (arena ps ns gs vs header.new) []
+    ensures { (ps ns gs vs : List ℕ) → reply (generation_set_number result) [] (arena ps ns gs vs header.new) []
         ≡ set_generation (arena ps ns gs vs header.old) g.0 [] }
 {
     let word = g.0;
@@ -135,9 +136,9 @@ pub fn canonicalize_freelist(
     payload: &mut [u32],
     header: &mut [u32],
 )
-    requires { verdict capacity_limit (lent prev next generation payload header) ≡ 0 }
-    ensures { reply 0 [] (at_exit prev next generation payload header) []
-        ≡ canonicalize_freelist (at_entry prev next generation payload header) [] }
+    requires { verdict capacity_limit (arena prev.old next.old generation.old payload.old header.old) ≡ 0 }
+    ensures { reply 0 [] (arena prev.new next.new generation.new payload.new header.new) []
+        ≡ canonicalize_freelist (arena prev.old next.old generation.old payload.old header.old) [] }
 {
     let n = header[STACK_LENGTH] as usize;
     let m = highest_link(&*generation, n);

@@ -2,7 +2,6 @@
 ghost use Rattle.std.specs.Prelude.{◌≡◌, cond, List, ℕ, ◌+◌, ◌≤◌, ◌<◌, eqb, length, get_or};
 ghost use Rattle.definitions.specs.Columns.{at, put};
 ghost use Rattle.definitions.specs.Arena.{arena, capacity_limit, header_words};
-ghost use Rattle.definitions.specs.Lent.{lent, at_entry, at_exit};
 ghost use Rattle.definitions.specs.Insert.{header_after, inserted};
 ghost use Rattle.base_insertion.specs.Insertion.{Roomy, Countable, Insertable, slot_for};
 
@@ -75,9 +74,9 @@ pub fn insert_between(
     v: Slot,
     x: u32,
 )
-    requires { Insertable (lent prev next generation payload header) t.0 u.0 v.0 }
-    ensures { at_exit prev next generation payload header
-        ≡ inserted (at_entry prev next generation payload header) u.0 v.0 x }
+    requires { Insertable (arena prev.old next.old generation.old payload.old header.old) t.0 u.0 v.0 }
+    ensures { arena prev.new next.new generation.new payload.new header.new
+        ≡ inserted (arena prev.old next.old generation.old payload.old header.old) u.0 v.0 x }
 {
     let g = header[CURRENT_GENERATION];
     let i = t.0 as usize - 1;

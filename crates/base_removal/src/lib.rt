@@ -1,7 +1,6 @@
 // Removal of a slot (arena/base_arena.rs, `remove_internal`, and the joining of its neighbours in chain/impl_chain_arena_trait.rs).
 ghost use Rattle.std.specs.Prelude.{◌-◌};
-ghost use Rattle.definitions.specs.Arena.{largest_generation};
-ghost use Rattle.definitions.specs.Lent.{lent, at_entry, at_exit};
+ghost use Rattle.definitions.specs.Arena.{largest_generation, arena};
 ghost use Rattle.base_slots.specs.Removal.{Removable, TakenOut};
 
 use base_slots::{count_removal, free, join, pop};
@@ -17,10 +16,10 @@ pub fn take_out(
     header: &mut [u32],
     s: Slot,
 ) -> bool
-    requires { Removable (lent prev next generation payload header) s.0 }
+    requires { Removable (arena prev.old next.old generation.old payload.old header.old) s.0 }
     ensures { TakenOut largest_generation
-        (at_entry prev next generation payload header) s.0
-        (at_exit prev next generation payload header) result }
+        (arena prev.old next.old generation.old payload.old header.old) s.0
+        (arena prev.new next.new generation.new payload.new header.new) result }
 {
     let n = header[STACK_LENGTH];
     let last = s.0;

@@ -1,7 +1,6 @@
 // The parts of a removal (arena/base_arena.rs): joining the neighbours of a slot, counting it off, popping it or putting it on the freelist.
 ghost use Rattle.std.specs.Prelude.{◌≡◌, cond, List, ℕ, ◌-◌, ◌≤◌, ◌<◌, eqb, length, get_or};
 ghost use Rattle.definitions.specs.Arena.{arena, largest_generation, header_words, with_stack_length, with_root};
-ghost use Rattle.definitions.specs.Lent.{at_entry, at_exit};
 ghost use Rattle.definitions.specs.Remove.{joined, vacated};
 ghost use Rattle.base_slots.specs.Removal.{Joinable, Stands, Counted};
 
@@ -64,8 +63,8 @@ pub fn pop(
 )
     requires stands { Stands prev.old next.old generation.old payload.old s.0 }
     requires header_len { (length header.old ≡ header_words) × (s.0 ≡ get_or header.old 0 0) }
-    ensures { at_exit prev next generation payload header
-        ≡ vacated (at_entry prev next generation payload header) s.0 0
+    ensures { arena prev.new next.new generation.new payload.new header.new
+        ≡ vacated (arena prev.old next.old generation.old payload.old header.old) s.0 0
         (with_stack_length (s.0 - 1) header.old) }
 {
     vacate(prev, next, generation, payload, s, Slot(0));
@@ -93,8 +92,8 @@ pub fn free(
 )
     requires stands { Stands prev.old next.old generation.old payload.old s.0 }
     requires header_len { length header.old ≡ header_words }
-    ensures { at_exit prev next generation payload header
-        ≡ vacated (at_entry prev next generation payload header) s.0
+    ensures { arena prev.new next.new generation.new payload.new header.new
+        ≡ vacated (arena prev.old next.old generation.old payload.old header.old) s.0
         (cond (eqb (get_or header.old 2 0) 0) s.0 (get_or header.old 2 0)) (with_root s.0 header.old) }
 {
     let f = freelist_pointer(header[ROOT], s);

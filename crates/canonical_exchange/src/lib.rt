@@ -2,14 +2,14 @@
 ghost use Rattle.std.specs.Prelude.{◌≡◌, ◌≤◌, length};
 ghost use Rattle.definitions.specs.Columns.{put};
 ghost use Rattle.definitions.specs.Compress.{exchange_words};
-ghost use Rattle.canonical_exchange.specs.Lent.{columns, columns_at_entry, columns_at_exit};
+ghost use Rattle.canonical_exchange.specs.Lent.{columns, lent};
 ghost use Rattle.canonical_exchange.specs.Exchange.{Inside, NamedIn, LinksInReach, InReach, renamed_words, Exchanged};
 
 use columns::{put_at, slot_at};
 use ptr::Slot;
 
 // What two slots that are exchanged name in a column of neighbours: the link that is moved, and who is where it goes, nothing if nobody is.
-#[derive(Drop)]
+#[derive(Clone, Copy)]
 pub struct Named {
     pub moved: Slot,
     pub other: Slot,
@@ -77,9 +77,9 @@ pub fn exchange(
     i: Slot,
     t: Slot,
 )
-    requires { InReach (columns prev next payload where_from) i.0 t.0 }
-    ensures { Exchanged (columns_at_entry prev next payload where_from)
-        (columns_at_exit prev next payload where_from) i.0 t.0 }
+    requires { InReach (lent prev.old next.old payload.old where_from.old) i.0 t.0 }
+    ensures { Exchanged (lent prev.old next.old payload.old where_from.old)
+        (lent prev.new next.new payload.new where_from.new) i.0 t.0 }
 {
     exchange_links(prev, next, &*where_from, i, t);
     trade_words(where_from, i, t);

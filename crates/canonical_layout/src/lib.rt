@@ -2,7 +2,7 @@
 ghost use Rattle.std.specs.Prelude.{◌≡◌, ℕ, ◌+◌, ◌≤◌, ◌<◌, length};
 ghost use Rattle.definitions.specs.Arena.{Arena, capacity_limit, stack_length};
 ghost use Rattle.definitions.specs.Compress.{Laying, lowest_from, start_of, lay_chain, laid_out};
-ghost use Rattle.canonical_exchange.specs.Lent.{columns, columns_at_entry, columns_at_exit};
+ghost use Rattle.canonical_exchange.specs.Lent.{columns, lent};
 ghost use Rattle.canonical_layout.specs.Held.{Occupied, Rooted};
 ghost use Rattle.canonical_layout.specs.Steps.{InChain, LinkLaid, ChainLaid, Ready, AllLaid, Larger};
 
@@ -19,9 +19,9 @@ pub fn lay_link(
     laid: usize,
     t: Slot,
 ) -> Slot
-    requires { (a : Arena) × (l : Laying) × (first : ℕ) × InChain a l first t.0 (columns prev next payload where_from) laid }
-    ensures { (a : Arena) (l : Laying) (first : ℕ) → InChain a l first t.0 (columns_at_entry prev next payload where_from) laid
-        → LinkLaid l t.0 (columns_at_exit prev next payload where_from) result.0 }
+    requires { (a : Arena) × (l : Laying) × (first : ℕ) × InChain a l first t.0 (lent prev.old next.old payload.old where_from.old) laid }
+    ensures { (a : Arena) (l : Laying) (first : ℕ) → InChain a l first t.0 (lent prev.old next.old payload.old where_from.old) laid
+        → LinkLaid l t.0 (lent prev.new next.new payload.new where_from.new) result.0 }
 {
     let i = Slot((laid + 1) as u32);
     if i.0 == t.0 {
@@ -50,10 +50,10 @@ pub fn lay_chain(
     start: Slot,
 ) -> usize
     requires first_value { first.0 ≡ laid + 1 }
-    requires in_chain { (a : Arena) × (l : Laying) × InChain a l l.i start.0 (columns prev next payload where_from) laid }
-    ensures { (a : Arena) (l : Laying) → InChain a l l.i start.0 (columns_at_entry prev next payload where_from) laid
+    requires in_chain { (a : Arena) × (l : Laying) × InChain a l l.i start.0 (lent prev.old next.old payload.old where_from.old) laid }
+    ensures { (a : Arena) (l : Laying) → InChain a l l.i start.0 (lent prev.old next.old payload.old where_from.old) laid
         → ChainLaid a l (lay_chain (stack_length l.slots) l.i start.0 l) laid
-        (columns_at_exit prev next payload where_from) result }
+        (lent prev.new next.new payload.new where_from.new) result }
 {
     let mut count = laid;
     let mut t = start;
@@ -125,9 +125,9 @@ pub fn larger(x: usize, y: usize) -> usize
 
 // Lays out chain after chain: the lowest link that is not in its place, its chain's start, and from there along next.
 pub fn lay_chains(prev: &mut [u32], next: &mut [u32], payload: &mut [u32], where_from: &mut [u32])
-    requires { (a : Arena) × Ready a (columns prev next payload where_from) }
-    ensures { (a : Arena) → Ready a (columns_at_entry prev next payload where_from)
-        → AllLaid a (laid_out a) (columns_at_exit prev next payload where_from) }
+    requires { (a : Arena) × Ready a (lent prev.old next.old payload.old where_from.old) }
+    ensures { (a : Arena) → Ready a (lent prev.old next.old payload.old where_from.old)
+        → AllLaid a (laid_out a) (lent prev.new next.new payload.new where_from.new) }
 {
     let mut laid: usize = 0;
     let mut found = lowest_link(&*where_from, laid);

@@ -1,4 +1,6 @@
 // The whole check of a lent arena (chain/chain_arena.rs, `_check_invariants`): refusals 1 to 10, then the interlinks.
+#![tactic(auto)]
+
 ghost use Rattle.std.specs.Prelude.{◌≡◌, ◌≤◌, ◌<◌, length};
 ghost use Rattle.definitions.specs.Columns.{first_or};
 ghost use Rattle.definitions.specs.Lent.{at_entry};
@@ -14,7 +16,7 @@ const PREV_SIDE: u32 = 1;
 const NEXT_SIDE: u32 = 2;
 
 // What the check answers: nothing is wrong, a refusal 1 to 10, or 11 with the lowest slot at which rule 11 fails and the word of the side.
-#[derive(Drop)]
+#[derive(Clone, Copy)]
 pub enum Checked {
     Passed,
     Refused(u32),

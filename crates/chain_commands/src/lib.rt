@@ -1,7 +1,6 @@
 // The commands of a run, and one of them applied to an arena that passed the check (REFERENCE, Run).
 ghost use Rattle.std.specs.Prelude.{◌≡◌, ◌+◌, ◌*◌, ◌≤◌, length};
-ghost use Rattle.definitions.specs.Arena.{capacity_limit, largest_generation};
-ghost use Rattle.definitions.specs.Lent.{lent, at_entry, at_exit};
+ghost use Rattle.definitions.specs.Arena.{capacity_limit, largest_generation, arena};
 ghost use Rattle.definitions.specs.Check.{WellFormed};
 ghost use Rattle.definitions.specs.Run.{command_words, command_at};
 ghost use Rattle.chain_commands.specs.Commands.{command_of, Applied};
@@ -15,7 +14,7 @@ use ptr::{Gen, Ptr, Slot};
 pub const COMMAND_WORDS: usize = 6;
 
 // A command: what to do, by its code, two pointers and a payload (REFERENCE, Run).
-#[derive(Drop)]
+#[derive(Clone, Copy)]
 pub struct Command {
     pub code: u32,
     pub first: Ptr,
@@ -52,10 +51,10 @@ pub fn apply(
     header: &mut [u32],
     c: Command,
 ) -> u32
-    requires { WellFormed capacity_limit (lent prev next generation payload header) }
+    requires { WellFormed capacity_limit (arena prev.old next.old generation.old payload.old header.old) }
     ensures { Applied largest_generation
-        (at_entry prev next generation payload header) (command_of c) result
-        (at_exit prev next generation payload header) }
+        (arena prev.old next.old generation.old payload.old header.old) (command_of c) result
+        (arena prev.new next.new generation.new payload.new header.new) }
 {
     let p = c.first;
     let q = c.second;

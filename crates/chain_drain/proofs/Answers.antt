@@ -32,34 +32,34 @@ pub has_room : (room words : ℕ) {r : Bool} → r ≡ ltb room words → r ≡ 
 has_room room words e f = ltb-false room words (sym e ∙ f)
 
 -- also once the slots are listed in it
-pub listed-room : {ss old new : List ℕ} {items : ℕ} → Listed ss old new items → length new ≡ length old → 5 * length ss ≤ length old → 5 * items ≤ length new
-listed-room {new = new} {items} l same room = omega (arith, ap length l.slots, length_items items new)
+pub listed_room : {ss old new : List ℕ} {items : ℕ} → Listed ss old new items → length new ≡ length old → 5 * length ss ≤ length old → 5 * items ≤ length new
+listed_room {new = new} {items} l same room = omega (arith, ap length l.slots, length_items items new)
 
 -- no walk is started at a stale pointer, and nothing is drained
-pub drain-none : (a : Arena) (p : Pointer) (top : ℕ) (report : List ℕ) → start_reply StaleStart a [] ≡ walk_start a p [] → drain_reply Stale a report ≡ drain top a p report
+pub drain_none : (a : Arena) (p : Pointer) (top : ℕ) (report : List ℕ) → start_reply StaleStart a [] ≡ walk_start a p [] → drain_reply Stale a report ≡ drain top a p report
 unfolding drain
-drain-none a p top report e = rw (not_started a p e) refl
+drain_none a p top report e = rw (not_started a p e) refl
 
 module _ {a : Arena} {p : Pointer} {w : ChainPtrAdvancer} (start : StartedAt a p w) where
   -- the report is too short
-  pub drain-short : (top : ℕ) (report : List ℕ) {r : Bool} → r ≡ ltb (length report) (5 * length (slots_ahead a (walk_of w))) → r ≡ true → drain_reply Short a report ≡ drain top a p report
+  pub drain_short : (top : ℕ) (report : List ℕ) {r : Bool} → r ≡ ltb (length report) (5 * length (slots_ahead a (walk_of w))) → r ≡ true → drain_reply Short a report ≡ drain top a p report
   unfolding drain
-  drain-short top report e t = rw (start.fresh, ← whole_walk start, ← e, t) refl
+  drain_short top report e t = rw (start.fresh, ← whole_walk start, ← e, t) refl
 
   -- the slots are listed
   module _ {report listed : List ℕ} {items : ℕ} (l : Listed (slots_ahead a (walk_of w)) report listed items) where
     slots : item_slots items listed ≡ walk_from a p.slot
     slots = l.slots ∙ whole_walk start
 
-    pub drain-can : {limit : ℕ} → WellFormed limit a → Drainable limit a (item_slots items listed)
-    drain-can {limit} ok =
+    pub drain_can : {limit : ℕ} → WellFormed limit a → Drainable limit a (item_slots items listed)
+    drain_can {limit} ok =
         let walks = walk_gives_chain limit a ok p.slot (fresh_link a p start.fresh) in
         rw slots (record { arena = ok; links = walks.links; once = walks.once })
 
-    pub drain-done :
+    pub drain_done :
         {top : ℕ} {left : Arena} {words : List ℕ} {overflowed : ℕ} → 5 * length (slots_ahead a (walk_of w)) ≤ length report
         → ItemsDrained top a (item_slots items listed) listed left words overflowed → drain_reply (Done items overflowed) left words ≡ drain top a p report
     unfolding drain written
-    drain-done room done =
+    drain_done room done =
         let fits : ltb (length report) (5 * length (item_slots items listed)) ≡ false = le-ltb (length report) (5 * length (item_slots items listed)) (rw l.slots room) in
         rw (start.fresh, ← slots, fits, done.arena, done.report, done.overflowed, length_drained, length_items, l.rest) refl

@@ -1,8 +1,8 @@
 // The drain of a chain (`ChainDrain` of chain/chain_iterators.rs) in an arena that passed the check. Since no drain is left half done, the report can
 // hold the walk's slots before the first of them is removed: so the order is the walk's own, and no memory is needed but the lent report.
 ghost use Rattle.std.specs.Prelude.{◌≡◌};
-ghost use Rattle.definitions.specs.Arena.{capacity_limit, largest_generation};
-ghost use Rattle.definitions.specs.Lent.{lent, at_entry, at_exit};
+ghost use Rattle.definitions.specs.Arena.{capacity_limit, largest_generation, arena};
+ghost use Rattle.definitions.specs.Lent.{lent};
 ghost use Rattle.definitions.specs.Check.{WellFormed};
 ghost use Rattle.definitions.specs.Remove.{drain};
 ghost use Rattle.chain_traits.specs.Read.{pointer_of};
@@ -13,7 +13,7 @@ use chain_iterators::{Started, advancer_chain};
 use ptr::Ptr;
 
 // What a drain answers.
-#[derive(Drop)]
+#[derive(Clone, Copy)]
 pub enum Drained {
     // How many links were removed, and which one of them, counted from 1, made the generation overflow; 0 if none did.
     Done { items: u32, overflowed: u32 },
@@ -33,9 +33,9 @@ pub fn drain(
     p: Ptr,
     report: &mut [u32],
 ) -> Drained
-    requires { WellFormed capacity_limit (lent prev next generation payload header) }
-    ensures { drain_reply result (at_exit prev next generation payload header) report.new
-        ≡ drain largest_generation (at_entry prev next generation payload header)
+    requires { WellFormed capacity_limit (arena prev.old next.old generation.old payload.old header.old) }
+    ensures { drain_reply result (arena prev.new next.new generation.new payload.new header.new) report.new
+        ≡ drain largest_generation (arena prev.old next.old generation.old payload.old header.old)
         (pointer_of p) report.old }
 {
     let started = advancer_chain(&*prev, &*next, &*generation, &*payload, &*header, p);

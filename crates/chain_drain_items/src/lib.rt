@@ -1,7 +1,7 @@
 // The items of a drain (`ChainDrain` of chain/chain_iterators.rs): the slots of the chain are listed in the report, and then each link is reported and removed.
 ghost use Rattle.std.specs.Prelude.{◌≡◌, cond, [], ◌+◌, ◌*◌, ◌≤◌, eqb, ltb, length, get_or};
 ghost use Rattle.definitions.specs.Arena.{arena, capacity_limit, largest_generation};
-ghost use Rattle.definitions.specs.Lent.{lent, at_entry, at_exit};
+ghost use Rattle.definitions.specs.Lent.{lent, at_entry};
 ghost use Rattle.definitions.specs.Check.{WellFormed};
 ghost use Rattle.base_slots.specs.Removal.{Stands, Removable};
 ghost use Rattle.chain_iterators.specs.Walk.{walk_of, OnChain};
@@ -94,11 +94,11 @@ pub fn drain_item(
     report: &mut [u32],
     i: usize,
 ) -> bool
-    requires removable { Removable (lent prev next generation payload header) (get_or report.old i 0) }
+    requires removable { Removable (arena prev.old next.old generation.old payload.old header.old) (get_or report.old i 0) }
     requires i_in_bounds { i + 5 ≤ length report.old }
     ensures { ItemDrained largest_generation
-        (at_entry prev next generation payload header) (get_or report.old i 0) i report.old
-        (at_exit prev next generation payload header) report.new result }
+        (arena prev.old next.old generation.old payload.old header.old) (get_or report.old i 0) i report.old
+        (arena prev.new next.new generation.new payload.new header.new) report.new result }
 {
     let s = Slot(report[i]);
     report_link(&*prev, &*next, &*generation, &*payload, s, report, i);
@@ -126,11 +126,11 @@ pub fn drain_items(
     report: &mut [u32],
     items: u32,
 ) -> u32
-    requires drainable { Drainable capacity_limit (lent prev next generation payload header) (item_slots items report.old) }
+    requires drainable { Drainable capacity_limit (arena prev.old next.old generation.old payload.old header.old) (item_slots items report.old) }
     requires in_bounds { 5 * items ≤ length report.old }
     ensures { ItemsDrained largest_generation
-        (at_entry prev next generation payload header) (item_slots items report.old) report.old
-        (at_exit prev next generation payload header) report.new result }
+        (arena prev.old next.old generation.old payload.old header.old) (item_slots items report.old) report.old
+        (arena prev.new next.new generation.new payload.new header.new) report.new result }
 {
     let mut overflowed: u32 = 0;
     let mut item: u32 = 0;

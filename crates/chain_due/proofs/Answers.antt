@@ -21,42 +21,42 @@ use Rattle.chain_due.specs.Due.{IsWindow, due_ahead, due_reply}
 
 -- no walk is started at a stale pointer
 module _ {a : Arena} (p : Pointer) (w : Window) (e : start_reply StaleStart a [] ≡ walk_start a p []) where
-  pub count-stale : (l : List ℕ) → due_reply Stale a l ≡ due_count a p w.from.0 w.to.0 l
+  pub count_stale : (l : List ℕ) → due_reply Stale a l ≡ due_count a p w.from.0 w.to.0 l
   unfolding due_count
-  count-stale l = rw (not_started a p e) refl
+  count_stale l = rw (not_started a p e) refl
 
-  pub events-stale : (l : List ℕ) → due_reply Stale a l ≡ due_events a p w.from.0 w.to.0 l
+  pub events_stale : (l : List ℕ) → due_reply Stale a l ≡ due_events a p w.from.0 w.to.0 l
   unfolding due_events
-  events-stale l = rw (not_started a p e) refl
+  events_stale l = rw (not_started a p e) refl
 
 module _ {a : Arena} {p : Pointer} {k : ChainPtrAdvancer} (start : StartedAt a p k) (w : Window) where
   -- the ends make no window
   module _ (none : is_window w.from.0 w.to.0 ≡ false) where
-    pub count-no-window : (l : List ℕ) → due_reply NoWindow a l ≡ due_count a p w.from.0 w.to.0 l
+    pub count_no_window : (l : List ℕ) → due_reply NoWindow a l ≡ due_count a p w.from.0 w.to.0 l
     unfolding due_count
-    count-no-window l = rw (start.fresh, none) refl
+    count_no_window l = rw (start.fresh, none) refl
 
-    pub events-no-window : (l : List ℕ) → due_reply NoWindow a l ≡ due_events a p w.from.0 w.to.0 l
+    pub events_no_window : (l : List ℕ) → due_reply NoWindow a l ≡ due_events a p w.from.0 w.to.0 l
     unfolding due_events
-    events-no-window l = rw (start.fresh, none) refl
+    events_no_window l = rw (start.fresh, none) refl
 
   module _ (ends : IsWindow w) where
     -- what is due of the walk that was started
-    due-slots : due_ahead a w (walk_of k) ≡ due_slots a p.slot w.from.0 w.to.0
+    due_slots_lem : due_ahead a w (walk_of k) ≡ due_slots a p.slot w.from.0 w.to.0
     unfolding due_slots
-    due-slots = rw (whole_walk start) refl
+    due_slots_lem = rw (whole_walk start) refl
 
-    pub count-done : (l : List ℕ) {count : ℕ} → count ≡ length (due_ahead a w (walk_of k)) → due_reply (Done count) a l ≡ due_count a p w.from.0 w.to.0 l
+    pub count_done_lem : (l : List ℕ) {count : ℕ} → count ≡ length (due_ahead a w (walk_of k)) → due_reply (Done count) a l ≡ due_count a p w.from.0 w.to.0 l
     unfolding due_count
-    count-done l e = rw (start.fresh, ends, e, due-slots) refl
+    count_done_lem l e = rw (start.fresh, ends, e, due_slots_lem) refl
 
     -- the report has fewer words than the walk has links
-    pub events-short : (report : List ℕ) → ltb (length report) (length (slots_ahead a (walk_of k))) ≡ true → due_reply Short a report ≡ due_events a p w.from.0 w.to.0 report
+    pub events_short : (report : List ℕ) → ltb (length report) (length (slots_ahead a (walk_of k))) ≡ true → due_reply Short a report ≡ due_events a p w.from.0 w.to.0 report
     unfolding due_events
-    events-short report few = rw (start.fresh, ends, ← whole_walk start, few) refl
+    events_short report few = rw (start.fresh, ends, ← whole_walk start, few) refl
 
-    pub events-done :
+    pub events_done_lem :
         (report : List ℕ) {new : List ℕ} {count : ℕ} → ltb (length report) (length (slots_ahead a (walk_of k))) ≡ false
         → (count ≡ length (due_ahead a w (walk_of k))) × (new ≡ written (due_ahead a w (walk_of k)) report) → due_reply (Done count) a new ≡ due_events a p w.from.0 w.to.0 report
     unfolding due_events
-    events-done report room e = rw (start.fresh, ends, ← whole_walk start, room, e.0, e.1, due-slots) refl
+    events_done_lem report room e = rw (start.fresh, ends, ← whole_walk start, room, e.0, e.1, due_slots_lem) refl

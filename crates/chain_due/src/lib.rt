@@ -17,7 +17,7 @@ use frame_clock::Window;
 use ptr::{Ptr, Slot};
 
 // What is answered of a chain and a window.
-#[derive(Drop)]
+#[derive(Clone, Copy)]
 pub enum Due {
     // How many links are due.
     Done(u32),

@@ -1,8 +1,7 @@
 // Connect, break and exchange (chain/impl_chain_arena_trait.rs) on an arena that passed the check.
 ghost use Rattle.std.specs.Prelude.{◌≡◌, cond, [], ◌≤◌, ◌<◌, length};
 ghost use Rattle.definitions.specs.Columns.{put};
-ghost use Rattle.definitions.specs.Arena.{capacity_limit};
-ghost use Rattle.definitions.specs.Lent.{lent, at_entry, at_exit};
+ghost use Rattle.definitions.specs.Arena.{capacity_limit, arena};
 ghost use Rattle.definitions.specs.Check.{WellFormed};
 ghost use Rattle.definitions.specs.Edit.{connect, break_prev, break_next, exchange_next};
 ghost use Rattle.chain_traits.specs.Read.{pointer_of};
@@ -14,7 +13,7 @@ use header::STACK_LENGTH;
 use ptr::{Ptr, Slot};
 
 // What an edit of interlinks answers.
-#[derive(Drop)]
+#[derive(Clone, Copy)]
 pub enum Edited {
     Done,
     // A pointer is stale.
@@ -46,9 +45,9 @@ pub fn connect(
     p_prev: Ptr,
     p_next: Ptr,
 ) -> Edited
-    requires { WellFormed capacity_limit (lent prev next generation payload header) }
-    ensures { edited_reply result (at_exit prev next generation payload header)
-        ≡ connect (at_entry prev next generation payload header)
+    requires { WellFormed capacity_limit (arena prev.old next.old generation.now payload.now header.now) }
+    ensures { edited_reply result (arena prev.new next.new generation.now payload.now header.now)
+        ≡ connect (arena prev.old next.old generation.now payload.now header.now)
         (pointer_of p_prev) (pointer_of p_next) [] }
 {
     let n = header[STACK_LENGTH] as usize;
@@ -90,9 +89,9 @@ pub fn break_side(
     p: Ptr,
     after: bool,
 ) -> Edited
-    requires { WellFormed capacity_limit (lent prev next generation payload header) }
-    ensures { edited_reply result (at_exit prev next generation payload header)
-        ≡ break_side (at_entry prev next generation payload header) (pointer_of p) after }
+    requires { WellFormed capacity_limit (arena prev.old next.old generation.now payload.now header.now) }
+    ensures { edited_reply result (arena prev.new next.new generation.now payload.now header.now)
+        ≡ break_side (arena prev.old next.old generation.now payload.now header.now) (pointer_of p) after }
 {
     let n = header[STACK_LENGTH] as usize;
     if stale(generation, n, p) {
@@ -118,9 +117,9 @@ pub fn break_prev(
     header: &[u32],
     p: Ptr,
 ) -> Edited
-    requires { WellFormed capacity_limit (lent prev next generation payload header) }
-    ensures { edited_reply result (at_exit prev next generation payload header)
-        ≡ break_prev (at_entry prev next generation payload header) (pointer_of p) [] }
+    requires { WellFormed capacity_limit (arena prev.old next.old generation.now payload.now header.now) }
+    ensures { edited_reply result (arena prev.new next.new generation.now payload.now header.now)
+        ≡ break_prev (arena prev.old next.old generation.now payload.now header.now) (pointer_of p) [] }
 {
     break_side(prev, next, generation, payload, header, p, false)
 }
@@ -134,9 +133,9 @@ pub fn break_next(
     header: &[u32],
     p: Ptr,
 ) -> Edited
-    requires { WellFormed capacity_limit (lent prev next generation payload header) }
-    ensures { edited_reply result (at_exit prev next generation payload header)
-        ≡ break_next (at_entry prev next generation payload header) (pointer_of p) [] }
+    requires { WellFormed capacity_limit (arena prev.old next.old generation.now payload.now header.now) }
+    ensures { edited_reply result (arena prev.new next.new generation.now payload.now header.now)
+        ≡ break_next (arena prev.old next.old generation.now payload.now header.now) (pointer_of p) [] }
 {
     break_side(prev, next, generation, payload, header, p, true)
 }
@@ -160,9 +159,9 @@ pub fn exchange_next(
     p0: Ptr,
     p1: Ptr,
 ) -> Edited
-    requires { WellFormed capacity_limit (lent prev next generation payload header) }
-    ensures { edited_reply result (at_exit prev next generation payload header)
-        ≡ exchange_next (at_entry prev next generation payload header)
+    requires { WellFormed capacity_limit (arena prev.old next.old generation.now payload.now header.now) }
+    ensures { edited_reply result (arena prev.new next.new generation.now payload.now header.now)
+        ≡ exchange_next (arena prev.old next.old generation.now payload.now header.now)
         (pointer_of p0) (pointer_of p1) [] }
 {
     let n = header[STACK_LENGTH] as usize;

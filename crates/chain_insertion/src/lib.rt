@@ -1,7 +1,6 @@
 // Insertion of a link (`insert_within_capacity` of chain/chain_traits.rs) into an arena that passed the check: one for all kinds.
 ghost use Rattle.std.specs.Prelude.{◌≡◌, List, [], ℕ};
-ghost use Rattle.definitions.specs.Arena.{Arena, capacity_limit};
-ghost use Rattle.definitions.specs.Lent.{lent, at_entry, at_exit};
+ghost use Rattle.definitions.specs.Arena.{Arena, capacity_limit, arena};
 ghost use Rattle.definitions.specs.Check.{WellFormed};
 ghost use Rattle.definitions.specs.Insert.{kind_of, insert, insert_coded};
 ghost use Rattle.chain_traits.specs.Read.{pointer_of};
@@ -16,7 +15,7 @@ use insert_places::Place;
 use ptr::{Gen, Ptr};
 
 // What an insertion answers.
-#[derive(Drop)]
+#[derive(Clone, Copy)]
 pub enum Inserted {
     // The pointer of the new link.
     Done(Ptr),
@@ -52,9 +51,9 @@ pub fn insert(
     kind: LinkInsertKind,
     x: u32,
 ) -> Inserted
-    requires { WellFormed capacity_limit (lent prev next generation payload header) }
-    ensures { inserted_reply result (at_exit prev next generation payload header) []
-        ≡ insert (at_entry prev next generation payload header) (insert_kind_of kind) x [] }
+    requires { WellFormed capacity_limit (arena prev.old next.old generation.old payload.old header.old) }
+    ensures { inserted_reply result (arena prev.new next.new generation.new payload.new header.new) []
+        ≡ insert (arena prev.old next.old generation.old payload.old header.old) (insert_kind_of kind) x [] }
 {
     let g = Gen(header[CURRENT_GENERATION]);
     let t = new_slot(&*header, prev.len());
@@ -85,9 +84,9 @@ pub fn insert_coded(
     q: Ptr,
     x: u32,
 ) -> Inserted
-    requires { WellFormed capacity_limit (lent prev next generation payload header) }
-    ensures { inserted_reply result (at_exit prev next generation payload header) []
-        ≡ insert_coded (at_entry prev next generation payload header)
+    requires { WellFormed capacity_limit (arena prev.old next.old generation.old payload.old header.old) }
+    ensures { inserted_reply result (arena prev.new next.new generation.new payload.new header.new) []
+        ≡ insert_coded (arena prev.old next.old generation.old payload.old header.old)
         (kind_of code (pointer_of p) (pointer_of q)) x [] }
 {
     match kind_of(code, p, q) {

@@ -14,7 +14,7 @@ use header::{LINK_COUNT, STACK_LENGTH};
 use ptr::{Ptr, Slot};
 
 // A walk along one chain. Any words may stand in it: at a position that is no link of the stack the walk is over (REFERENCE, Walk).
-#[derive(Drop)]
+#[derive(Clone, Copy)]
 pub struct ChainPtrAdvancer {
     // where the walk began
     pub init: u32,
@@ -27,7 +27,7 @@ pub struct ChainPtrAdvancer {
 }
 
 // What a step answers, slot 0 and generation 0 for none, and the next state.
-#[derive(Drop)]
+#[derive(Clone, Copy)]
 pub struct Advanced {
     pub slot: u32,
     pub generation: u32,
@@ -35,7 +35,7 @@ pub struct Advanced {
 }
 
 // What starting a walk answers.
-#[derive(Drop)]
+#[derive(Clone, Copy)]
 pub enum Started {
     At(ChainPtrAdvancer),
     Stale,

@@ -1,7 +1,6 @@
 // The removal of a link (`remove` of chain/impl_chain_arena_trait.rs).
 ghost use Rattle.std.specs.Prelude.{◌≡◌, []};
-ghost use Rattle.definitions.specs.Arena.{capacity_limit, largest_generation};
-ghost use Rattle.definitions.specs.Lent.{lent, at_entry, at_exit};
+ghost use Rattle.definitions.specs.Arena.{capacity_limit, largest_generation, arena};
 ghost use Rattle.definitions.specs.Check.{WellFormed};
 ghost use Rattle.definitions.specs.Remove.{remove};
 ghost use Rattle.links.specs.Links.{removal_reply};
@@ -21,9 +20,9 @@ pub fn remove(
     header: &mut [u32],
     p: Ptr,
 ) -> InvalidationResult
-    requires { WellFormed capacity_limit (lent prev next generation payload header) }
-    ensures { removal_reply result (at_exit prev next generation payload header) []
-        ≡ remove largest_generation (at_entry prev next generation payload header) (pointer_of p) [] }
+    requires { WellFormed capacity_limit (arena prev.old next.old generation.old payload.old header.old) }
+    ensures { removal_reply result (arena prev.new next.new generation.new payload.new header.new) []
+        ≡ remove largest_generation (arena prev.old next.old generation.old payload.old header.old) (pointer_of p) [] }
 {
     match get_link_no_gen(&*prev, &*next, &*generation, &*payload, &*header, p) {
         GotLinkNoGen::Stale => InvalidationResult::InvalidPtr,

@@ -1,7 +1,6 @@
 // A run of edits on an arena that passed the check.
 ghost use Rattle.std.specs.Prelude.{◌≡◌, ◌/◌, ◌≤◌, length};
-ghost use Rattle.definitions.specs.Arena.{capacity_limit, largest_generation};
-ghost use Rattle.definitions.specs.Lent.{lent, at_entry, at_exit};
+ghost use Rattle.definitions.specs.Arena.{capacity_limit, largest_generation, arena};
 ghost use Rattle.definitions.specs.Check.{WellFormed};
 ghost use Rattle.definitions.specs.Run.{command_words, run};
 ghost use Rattle.chain_run.specs.Ran.{AllApplied, ran_number, ran_reply};
@@ -18,12 +17,12 @@ pub fn apply_all(
     commands: &[u32],
     answers: &mut [u32],
 )
-    requires well_formed { WellFormed capacity_limit (lent prev next generation payload header) }
+    requires well_formed { WellFormed capacity_limit (arena prev.old next.old generation.old payload.old header.old) }
     requires command_words_in_bounds { length commands.now / command_words ≤ length answers.old }
     ensures { AllApplied largest_generation
-        (at_entry prev next generation payload header)
+        (arena prev.old next.old generation.old payload.old header.old)
         commands.now answers.old
-        (at_exit prev next generation payload header) answers.new }
+        (arena prev.new next.new generation.new payload.new header.new) answers.new }
 {
     let n = commands.len() / COMMAND_WORDS;
     let mut i: usize = 0;
@@ -43,7 +42,7 @@ pub fn apply_all(
 }
 
 // What a run answers.
-#[derive(Drop)]
+#[derive(Clone, Copy)]
 pub enum Ran {
     Done,
     // The last command lacks words.
@@ -75,9 +74,9 @@ pub fn run(
     commands: &[u32],
     answers: &mut [u32],
 ) -> Ran
-    requires { WellFormed capacity_limit (lent prev next generation payload header) }
-    ensures { ran_reply result (at_exit prev next generation payload header) answers.new
-        ≡ run largest_generation (at_entry prev next generation payload header)
+    requires { WellFormed capacity_limit (arena prev.old next.old generation.old payload.old header.old) }
+    ensures { ran_reply result (arena prev.new next.new generation.new payload.new header.new) answers.new
+        ≡ run largest_generation (arena prev.old next.old generation.old payload.old header.old)
         commands.now answers.old }
 {
     if commands.len() % COMMAND_WORDS != 0 {

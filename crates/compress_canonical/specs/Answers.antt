@@ -5,6 +5,6 @@ use Rattle.compress_canonical.specs.declared.Compressed.{Compressed}
 use Rattle.compress_canonical.specs.declared.Compressed.TheVariants.{Done, WrongLength}
 
 -- 0 or 100 where it was done; 14 for a where-from column that has not the length of the columns
-abbrev pub compressedNumber : Compressed → ℕ
-compressedNumber (Done overflow) = invalidation_number overflow
-compressedNumber WrongLength = 14
+abbrev pub compressed_number : Compressed → ℕ
+compressed_number (Done overflow) = invalidation_number overflow
+compressed_number WrongLength = 14

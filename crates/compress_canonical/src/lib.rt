@@ -1,13 +1,13 @@
 // Canonical compression (`compress_canonical` of chain/impl_chain_arena_trait.rs) in the lent columns, with no memory beyond them.
 ghost use Rattle.std.specs.Prelude.{◌≡◌, cond, [], ◌+◌, ◌≤◌, ◌<◌, eqb, length};
 ghost use Rattle.definitions.specs.Columns.{at};
-ghost use Rattle.definitions.specs.Arena.{capacity_limit, largest_generation};
-ghost use Rattle.definitions.specs.Lent.{lent, at_entry, at_exit};
+ghost use Rattle.definitions.specs.Arena.{capacity_limit, largest_generation, arena};
+ghost use Rattle.definitions.specs.Lent.{lent};
 ghost use Rattle.definitions.specs.Check.{verdict};
 ghost use Rattle.definitions.specs.Reply.{reply};
 ghost use Rattle.definitions.specs.Compress.{compress_canonical};
-ghost use Rattle.compress_canonical.specs.Answers.{compressedNumber};
-ghost use Rattle.canonical_exchange.specs.Lent.{columns_at_exit};
+ghost use Rattle.compress_canonical.specs.Answers.{compressed_number};
+ghost use Rattle.canonical_exchange.specs.Lent.{lent};
 ghost use Rattle.canonical_layout.specs.Held.{Marked};
 ghost use Rattle.canonical_layout.specs.Steps.{Stacked, LaidIn};
 ghost use Rattle.compress_canonical.specs.Shrunk.{Shrinkable, shrunk};
@@ -19,7 +19,7 @@ use header::{CURRENT_GENERATION, LINK_COUNT, ROOT, STACK_LENGTH};
 use ptr::InvalidationOption;
 
 // What became of a compression.
-#[derive(Drop)]
+#[derive(Clone, Copy)]
 pub enum Compressed {
     Done(InvalidationOption),
     WrongLength,
@@ -28,7 +28,7 @@ pub enum Compressed {
 impl Compressed {
     // The number of the answer (REFERENCE, Numbers).
     pub fn number(self) -> u32
-        ensures { result ≡ compressedNumber self }
+        ensures { result ≡ compressed_number self }
     {
         match self {
             Compressed::Done(overflow) => overflow.number(),
@@ -69,9 +69,9 @@ fn lay_out(
     header: &[u32],
     where_from: &mut [u32],
 )
-    requires { Stacked (lent prev next generation payload header) where_from.old }
-    ensures { LaidIn (at_entry prev next generation payload header) where_from.old
-        (columns_at_exit prev next payload where_from) }
+    requires { Stacked (arena prev.old next.old generation.now payload.old header.now) where_from.old }
+    ensures { LaidIn (arena prev.old next.old generation.now payload.old header.now) where_from.old
+        (lent prev.new next.new payload.new where_from.new) }
 {
     let n = header[STACK_LENGTH] as usize;
     mark_links(&mut where_from[..n], &generation[..n]);
@@ -91,9 +91,9 @@ fn shrink(
     payload: &mut [u32],
     header: &mut [u32],
 )
-    requires { Shrinkable (lent prev next generation payload header) }
-    ensures { at_exit prev next generation payload header
-        ≡ shrunk (at_entry prev next generation payload header) }
+    requires { Shrinkable (arena prev.old next.old generation.old payload.old header.old) }
+    ensures { arena prev.new next.new generation.new payload.new header.new
+        ≡ shrunk (arena prev.old next.old generation.old payload.old header.old) }
 {
     let n = header[STACK_LENGTH] as usize;
     let links = header[LINK_COUNT];
@@ -114,9 +114,9 @@ pub fn compress_canonical(
     reset: bool,
     where_from: &mut [u32],
 ) -> Compressed
-    requires { verdict capacity_limit (lent prev next generation payload header) ≡ 0 }
-    ensures { reply (compressedNumber result) [] (at_exit prev next generation payload header) where_from.new
-        ≡ compress_canonical largest_generation reset (at_entry prev next generation payload header) where_from.old }
+    requires { verdict capacity_limit (arena prev.old next.old generation.old payload.old header.old) ≡ 0 }
+    ensures { reply (compressed_number result) [] (arena prev.new next.new generation.new payload.new header.new) where_from.new
+        ≡ compress_canonical largest_generation reset (arena prev.old next.old generation.old payload.old header.old) where_from.old }
 {
     if where_from.len() != prev.len() {
         return Compressed::WrongLength;

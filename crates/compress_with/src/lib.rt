@@ -3,11 +3,11 @@
 ghost use Rattle.std.specs.Prelude.{◌≡◌, List, [], ℕ, ◌*◌, ◌<◌, length, get_or};
 ghost use Rattle.definitions.specs.Columns.{written};
 ghost use Rattle.definitions.specs.Arena.{arena, capacity_limit, largest_generation, link_slots};
-ghost use Rattle.definitions.specs.Lent.{lent, at_entry, at_exit};
+ghost use Rattle.definitions.specs.Lent.{lent};
 ghost use Rattle.definitions.specs.Check.{verdict};
 ghost use Rattle.definitions.specs.Reply.{reply};
 ghost use Rattle.definitions.specs.Compress.{compressed_header, relocate, moves_of, compress_with};
-ghost use Rattle.compress_with.specs.Answers.{compressedNumber};
+ghost use Rattle.compress_with.specs.Answers.{compressed_number};
 ghost use Rattle.compress_moves.specs.Moves.{Compressible};
 
 use base_freelist::pop_slots;
@@ -16,7 +16,7 @@ use header::{CURRENT_GENERATION, LINK_COUNT, ROOT, STACK_LENGTH};
 use ptr::InvalidationOption;
 
 // What became of a compression.
-#[derive(Drop)]
+#[derive(Clone, Copy)]
 pub enum Compressed {
     Done(InvalidationOption),
     NoRoom,
@@ -25,7 +25,7 @@ pub enum Compressed {
 impl Compressed {
     // The number of the answer (REFERENCE, Numbers).
     pub fn number(self) -> u32
-        ensures { result ≡ compressedNumber self }
+        ensures { result ≡ compressed_number self }
     {
         match self {
             Compressed::Done(overflow) => overflow.number(),
@@ -75,9 +75,9 @@ pub fn compress_with(
     reset: bool,
     report: &mut [u32],
 ) -> Compressed
-    requires { verdict capacity_limit (lent prev next generation payload header) ≡ 0 }
-    ensures { reply (compressedNumber result) [] (at_exit prev next generation payload header) report.new
-        ≡ compress_with largest_generation reset (at_entry prev next generation payload header) report.old }
+    requires { verdict capacity_limit (arena prev.old next.old generation.old payload.old header.old) ≡ 0 }
+    ensures { reply (compressed_number result) [] (arena prev.new next.new generation.new payload.new header.new) report.new
+        ≡ compress_with largest_generation reset (arena prev.old next.old generation.old payload.old header.old) report.old }
 {
     let n = header[STACK_LENGTH] as usize;
     let links = header[LINK_COUNT];

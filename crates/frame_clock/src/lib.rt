@@ -1,24 +1,26 @@
 // The frame clock: the lines and dots of a frame, and windows of dots (REFERENCE, Frame clock).
+#![tactic(auto)]
+
 ghost use Rattle.std.specs.Prelude.{◌≡◌, true, ◌<◌};
 ghost use Rattle.definitions.specs.Clock.{frame_dots, frame_lines, first_dot, last_dot, line_of, is_window, due};
 
 // A dot of the frame, counted from 0 through all its lines.
-#[derive(Drop)]
+#[derive(Clone, Copy)]
 pub struct Dot(pub u32);
 
 // A line of the frame, counted from 0.
-#[derive(Drop)]
+#[derive(Clone, Copy)]
 pub struct Line(pub u32);
 
 // The ends of a line.
-#[derive(Drop)]
+#[derive(Clone, Copy)]
 pub struct LineDots {
     pub first: Dot,
     pub last: Dot,
 }
 
 // A window of dots: it begins with one and ends before another; past the end of the frame it goes on at its start.
-#[derive(Drop)]
+#[derive(Clone, Copy)]
 pub struct Window {
     pub from: Dot,
     pub to: Dot,

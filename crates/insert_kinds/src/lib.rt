@@ -7,7 +7,7 @@ ghost use Rattle.insert_kinds.specs.Kinds.{coded_of};
 use ptr::{Ptr, Slot};
 
 // Where a new link goes. A kind that ends in Inx names links by slot, whatever their generation.
-#[derive(Drop)]
+#[derive(Clone, Copy)]
 pub enum LinkInsertKind {
     // In an open chain of its own.
     Disconnected,
@@ -34,7 +34,7 @@ pub enum LinkInsertKind {
 }
 
 // What a code stands for.
-#[derive(Drop)]
+#[derive(Clone, Copy)]
 pub enum Coded {
     Kind(LinkInsertKind),
     Unknown,

@@ -11,7 +11,7 @@ use columns::{slot_at, word_at};
 use ptr::{Ptr, Slot};
 
 // Where a new link goes: between two slots, 0 where there is none; or nowhere.
-#[derive(Drop)]
+#[derive(Clone, Copy)]
 pub enum Place {
     Nowhere,
     Between(Slot, Slot),

@@ -14,7 +14,7 @@ use ptr::{Gen, Ptr, Slot};
 
 // How many links of a chain are due.
 #[repr(C)]
-#[derive(Drop)]
+#[derive(Clone, Copy)]
 pub struct DueResult {
     pub answer: Answer,
     pub count: u32,

@@ -6,7 +6,7 @@ use frame_clock::{DOTS, Dot, LINES, Line};
 
 // The line of a dot.
 #[repr(C)]
-#[derive(Drop)]
+#[derive(Clone, Copy)]
 pub struct LineResult {
     pub number: u32,
     pub line: u32,
@@ -14,7 +14,7 @@ pub struct LineResult {
 
 // The first and the last dot of a line.
 #[repr(C)]
-#[derive(Drop)]
+#[derive(Clone, Copy)]
 pub struct LineDotsResult {
     pub number: u32,
     pub first: u32,

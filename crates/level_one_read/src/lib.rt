@@ -11,7 +11,7 @@ use ptr::{Gen, Ptr, Slot};
 
 // A link with its neighbours' generations; slot 0 and generation 0 where there is no neighbour.
 #[repr(C)]
-#[derive(Drop)]
+#[derive(Clone, Copy)]
 pub struct LinkResult {
     pub answer: Answer,
     pub prev: u32,
@@ -23,7 +23,7 @@ pub struct LinkResult {
 
 // Whether two links are neighbours: 1 or 0.
 #[repr(C)]
-#[derive(Drop)]
+#[derive(Clone, Copy)]
 pub struct NeighborsResult {
     pub answer: Answer,
     pub yes: u32,

@@ -11,7 +11,7 @@ use ptr::{Gen, Ptr, Slot};
 
 // The state of a walk that has begun.
 #[repr(C)]
-#[derive(Drop)]
+#[derive(Clone, Copy)]
 pub struct WalkResult {
     pub answer: Answer,
     pub start: u32,
@@ -22,7 +22,7 @@ pub struct WalkResult {
 
 // What a step answers, slot 0 and generation 0 for none, and the next state.
 #[repr(C)]
-#[derive(Drop)]
+#[derive(Clone, Copy)]
 pub struct StepResult {
     pub answer: Answer,
     pub slot: u32,

@@ -1,6 +1,6 @@
 // Level Three, canonical compression, as a host calls it.
+ghost use Rattle.definitions.specs.Arena.{arena};
 ghost use Rattle.std.specs.Prelude.{not, [], eqb};
-ghost use Rattle.definitions.specs.Lent.{at_entry, at_exit};
 ghost use Rattle.definitions.specs.Calls.{CompressCanonical};
 ghost use Rattle.answers.specs.Answered.{Answered};
 
@@ -20,7 +20,7 @@ pub extern "C" fn chain_arena_compress_canonical(
     where_from: &mut [u32],
 ) -> Answer
     ensures { Answered (CompressCanonical (not (eqb reset 0)))
-        (at_entry prev next generation payload header) where_from.old result [] (at_exit prev next generation payload header) where_from.new }
+        (arena prev.old next.old generation.old payload.old header.old) where_from.old result [] (arena prev.new next.new generation.new payload.new header.new) where_from.new }
 {
     let answer = checked(&*prev, &*next, &*generation, &*payload, &*header);
     if answer.number != 0 {

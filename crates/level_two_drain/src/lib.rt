@@ -1,7 +1,6 @@
 // Level Two, the drain of a chain, as a host calls it.
 ghost use Rattle.std.specs.Prelude.{List, [], ◌∷◌, ◌≡◌, ℕ};
-ghost use Rattle.definitions.specs.Arena.{Arena};
-ghost use Rattle.definitions.specs.Lent.{at_entry, at_exit};
+ghost use Rattle.definitions.specs.Arena.{Arena, arena};
 ghost use Rattle.definitions.specs.Read.{pointer};
 ghost use Rattle.definitions.specs.Calls.{Drain};
 ghost use Rattle.chain_drain.specs.Drained.{drain_reply};
@@ -13,7 +12,7 @@ use ptr::{Gen, Ptr, Slot};
 
 // A drain's answer: how many links were removed, and which one of them, counted from 1, made the generation overflow, 0 if none did.
 #[repr(C)]
-#[derive(Drop)]
+#[derive(Clone, Copy)]
 pub struct DrainResult {
     pub answer: Answer,
     pub items: u32,
@@ -56,7 +55,7 @@ pub extern "C" fn chain_arena_drain(
     report: &mut [u32],
 ) -> DrainResult
     ensures { Answered (Drain (pointer p_slot p_generation))
-        (at_entry prev next generation payload header) report.old result.answer (result.items ∷ result.overflowed ∷ []) (at_exit prev next generation payload header) report.new }
+        (arena prev.old next.old generation.old payload.old header.old) report.old result.answer (result.items ∷ result.overflowed ∷ []) (arena prev.new next.new generation.new payload.new header.new) report.new }
 {
     let answer = checked(&*prev, &*next, &*generation, &*payload, &*header);
     if answer.number != 0 {

@@ -1,6 +1,6 @@
 // Level Two, the edits of interlinks, as a host calls them.
+ghost use Rattle.definitions.specs.Arena.{arena};
 ghost use Rattle.std.specs.Prelude.{[]};
-ghost use Rattle.definitions.specs.Lent.{at_entry, at_exit};
 ghost use Rattle.definitions.specs.Read.{pointer};
 ghost use Rattle.definitions.specs.Calls.{Connect, BreakPrev, BreakNext, ExchangeNext};
 ghost use Rattle.answers.specs.Answered.{Answered};
@@ -23,7 +23,7 @@ pub extern "C" fn chain_arena_connect(
     p_next_generation: u32,
 ) -> Answer
     ensures { Answered (Connect (pointer p_prev_slot p_prev_generation) (pointer p_next_slot p_next_generation))
-        (at_entry prev next generation payload header) [] result [] (at_exit prev next generation payload header) [] }
+        (arena prev.old next.old generation.now payload.now header.now) [] result [] (arena prev.new next.new generation.now payload.now header.now) [] }
 {
     let answer = checked(&*prev, &*next, generation, payload, header);
     if answer.number != 0 {
@@ -52,7 +52,7 @@ pub extern "C" fn chain_arena_break_prev(
     p_generation: u32,
 ) -> Answer
     ensures { Answered (BreakPrev (pointer p_slot p_generation))
-        (at_entry prev next generation payload header) [] result [] (at_exit prev next generation payload header) [] }
+        (arena prev.old next.old generation.now payload.now header.now) [] result [] (arena prev.new next.new generation.now payload.now header.now) [] }
 {
     let answer = checked(&*prev, &*next, generation, payload, header);
     if answer.number != 0 {
@@ -77,7 +77,7 @@ pub extern "C" fn chain_arena_break_next(
     p_generation: u32,
 ) -> Answer
     ensures { Answered (BreakNext (pointer p_slot p_generation))
-        (at_entry prev next generation payload header) [] result [] (at_exit prev next generation payload header) [] }
+        (arena prev.old next.old generation.now payload.now header.now) [] result [] (arena prev.new next.new generation.now payload.now header.now) [] }
 {
     let answer = checked(&*prev, &*next, generation, payload, header);
     if answer.number != 0 {
@@ -104,7 +104,7 @@ pub extern "C" fn chain_arena_exchange_next(
     p1_generation: u32,
 ) -> Answer
     ensures { Answered (ExchangeNext (pointer p0_slot p0_generation) (pointer p1_slot p1_generation))
-        (at_entry prev next generation payload header) [] result [] (at_exit prev next generation payload header) [] }
+        (arena prev.old next.old generation.now payload.now header.now) [] result [] (arena prev.new next.new generation.now payload.now header.now) [] }
 {
     let answer = checked(&*prev, &*next, generation, payload, header);
     if answer.number != 0 {

@@ -1,6 +1,6 @@
 // Level Two, the current generation and the freelist, as a host calls them.
+ghost use Rattle.definitions.specs.Arena.{arena};
 ghost use Rattle.std.specs.Prelude.{[]};
-ghost use Rattle.definitions.specs.Lent.{at_entry, at_exit};
 ghost use Rattle.definitions.specs.Calls.{SetGeneration, IncGeneration, CanonicalizeFreelist};
 ghost use Rattle.answers.specs.Answered.{Answered};
 
@@ -19,7 +19,7 @@ pub extern "C" fn chain_arena_set_generation(
     new_generation: u32,
 ) -> Answer
     ensures { Answered (SetGeneration new_generation)
-        (at_entry prev next generation payload header) [] result [] (at_exit prev next generation payload header) [] }
+        (arena prev.now next.now generation.now payload.now header.old) [] result [] (arena prev.now next.now generation.now payload.now header.new) [] }
 {
     let answer = checked(prev, next, generation, payload, &*header);
     if answer.number != 0 {
@@ -38,7 +38,7 @@ pub extern "C" fn chain_arena_inc_generation(
     header: &mut [u32],
 ) -> Answer
     ensures { Answered IncGeneration
-        (at_entry prev next generation payload header) [] result [] (at_exit prev next generation payload header) [] }
+        (arena prev.now next.now generation.now payload.now header.old) [] result [] (arena prev.now next.now generation.now payload.now header.new) [] }
 {
     let answer = checked(prev, next, generation, payload, &*header);
     if answer.number != 0 {
@@ -58,7 +58,7 @@ pub extern "C" fn chain_arena_canonicalize_freelist(
     header: &mut [u32],
 ) -> Answer
     ensures { Answered CanonicalizeFreelist
-        (at_entry prev next generation payload header) [] result [] (at_exit prev next generation payload header) [] }
+        (arena prev.old next.old generation.old payload.old header.old) [] result [] (arena prev.new next.new generation.new payload.new header.new) [] }
 {
     let answer = checked(&*prev, &*next, &*generation, &*payload, &*header);
     if answer.number != 0 {

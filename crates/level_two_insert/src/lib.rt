@@ -1,7 +1,6 @@
 // Level Two, the insertion of a link, as a host calls it.
 ghost use Rattle.std.specs.Prelude.{List, [], ◌∷◌, ◌≡◌, ℕ};
-ghost use Rattle.definitions.specs.Arena.{Arena};
-ghost use Rattle.definitions.specs.Lent.{at_entry, at_exit};
+ghost use Rattle.definitions.specs.Arena.{Arena, arena};
 ghost use Rattle.definitions.specs.Read.{pointer};
 ghost use Rattle.definitions.specs.Calls.{Insert};
 ghost use Rattle.chain_insertion.specs.Inserted.{inserted_reply};
@@ -13,7 +12,7 @@ use ptr::{Gen, Ptr, Slot};
 
 // The pointer of a link that was inserted; slot 0 and generation 0 where none was.
 #[repr(C)]
-#[derive(Drop)]
+#[derive(Clone, Copy)]
 pub struct InsertResult {
     pub answer: Answer,
     pub slot: u32,
@@ -65,7 +64,7 @@ pub extern "C" fn chain_arena_insert(
     new_payload: u32,
 ) -> InsertResult
     ensures { Answered (Insert kind (pointer p_slot p_generation) (pointer q_slot q_generation) new_payload)
-        (at_entry prev next generation payload header) [] result.answer (result.slot ∷ result.generation ∷ []) (at_exit prev next generation payload header) [] }
+        (arena prev.old next.old generation.old payload.old header.old) [] result.answer (result.slot ∷ result.generation ∷ []) (arena prev.new next.new generation.new payload.new header.new) [] }
 {
     let answer = checked(&*prev, &*next, &*generation, &*payload, &*header);
     if answer.number != 0 {

@@ -1,7 +1,6 @@
 // Level Two, the removal of a link, as a host calls it.
 ghost use Rattle.std.specs.Prelude.{List, [], ◌∷◌, ◌≡◌, ℕ};
-ghost use Rattle.definitions.specs.Arena.{Arena};
-ghost use Rattle.definitions.specs.Lent.{at_entry, at_exit};
+ghost use Rattle.definitions.specs.Arena.{Arena, arena};
 ghost use Rattle.definitions.specs.Read.{pointer};
 ghost use Rattle.definitions.specs.Calls.{Remove};
 ghost use Rattle.links.specs.Links.{removal_reply};
@@ -51,7 +50,7 @@ pub extern "C" fn chain_arena_remove(
     p_generation: u32,
 ) -> LinkNoGenResult
     ensures { Answered (Remove (pointer p_slot p_generation))
-        (at_entry prev next generation payload header) [] result.answer (result.prev ∷ result.next ∷ result.payload ∷ []) (at_exit prev next generation payload header) [] }
+        (arena prev.old next.old generation.old payload.old header.old) [] result.answer (result.prev ∷ result.next ∷ result.payload ∷ []) (arena prev.new next.new generation.new payload.new header.new) [] }
 {
     let answer = checked(&*prev, &*next, &*generation, &*payload, &*header);
     if answer.number != 0 {

@@ -1,6 +1,6 @@
 // Level Two, many edits in one call, as a host calls it.
+ghost use Rattle.definitions.specs.Arena.{arena};
 ghost use Rattle.std.specs.Prelude.{[]};
-ghost use Rattle.definitions.specs.Lent.{at_entry, at_exit};
 ghost use Rattle.definitions.specs.Calls.{Run};
 ghost use Rattle.answers.specs.Answered.{Answered};
 
@@ -19,7 +19,7 @@ pub extern "C" fn chain_arena_run(
     answers: &mut [u32],
 ) -> Answer
     ensures { Answered (Run commands.now)
-        (at_entry prev next generation payload header) answers.old result [] (at_exit prev next generation payload header) answers.new }
+        (arena prev.old next.old generation.old payload.old header.old) answers.old result [] (arena prev.new next.new generation.new payload.new header.new) answers.new }
 {
     let answer = checked(&*prev, &*next, &*generation, &*payload, &*header);
     if answer.number != 0 {

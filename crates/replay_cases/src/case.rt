@@ -92,7 +92,7 @@ pub fn words_of(case: &[u32; 192], part: usize, n: usize) -> [u32; 64]
 }
 
 // The argument words, 0 where there are fewer. A pointer is two of them, a slot and a generation.
-#[derive(Drop)]
+#[derive(Clone, Copy)]
 pub struct Arguments {
     pub first: u32,
     pub second: u32,
@@ -112,7 +112,7 @@ pub fn arguments_of(case: &[u32; 192]) -> Arguments {
 }
 
 // The argument words of an insertion: the kind, two pointers and the payload.
-#[derive(Drop)]
+#[derive(Clone, Copy)]
 pub struct Insertion {
     pub kind: u32,
     pub p_slot: u32,

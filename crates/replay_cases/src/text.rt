@@ -2,7 +2,7 @@
 // stored line to its form.
 
 // What is read: a byte, or the end of the input.
-#[derive(Drop)]
+#[derive(Clone, Copy)]
 enum Read {
     Byte(u8),
     End,

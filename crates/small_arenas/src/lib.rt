@@ -1,7 +1,6 @@
 // All small arenas, in order, as a host calls for them: an archive of its own.
 ghost use Rattle.std.specs.Prelude.{[], ◌∷◌, ◌≡◌};
-ghost use Rattle.definitions.specs.Arena.{Arena, capacity_limit};
-ghost use Rattle.definitions.specs.Lent.{at_entry, at_exit};
+ghost use Rattle.definitions.specs.Arena.{Arena, capacity_limit, arena};
 ghost use Rattle.definitions.specs.Reply.{reply};
 ghost use Rattle.all_small.specs.SmallArena.{small_arena};
 ghost use Rattle.small_layout.specs.Laid.{small_reply};
@@ -10,7 +9,7 @@ use small_layout::{SmallArena, small_arena};
 
 // Whether there is a small arena of an index, and its stack length.
 #[repr(C)]
-#[derive(Drop)]
+#[derive(Clone, Copy)]
 pub struct SmallArenaResult {
     pub number: u32,
     pub found: u32,
@@ -55,8 +54,8 @@ pub extern "C" fn chain_arena_small_arena(
     header: &mut [u32],
     index: u32,
 ) -> SmallArenaResult
-    ensures { reply result.number (result.found ∷ result.length ∷ []) (at_exit prev next generation payload header) []
-        ≡ small_arena capacity_limit (at_entry prev next generation payload header) index }
+    ensures { reply result.number (result.found ∷ result.length ∷ []) (arena prev.new next.new generation.new payload.new header.new) []
+        ≡ small_arena capacity_limit (arena prev.old next.old generation.old payload.old header.old) index }
 {
     small_result(small_arena(prev, next, generation, payload, header, index))
 }

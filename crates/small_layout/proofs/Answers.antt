@@ -21,18 +21,18 @@ unfolding unpacked
 stack_of p = refl
 
 module _ (limit : ℕ) (a : Arena) (index : ℕ) where
-  pub answers-misshapen : misshapen limit a ≡ true → small_reply Misshapen a ≡ small_arena limit a index
-  answers-misshapen m = sym (wrong_lengths limit a index m)
+  pub answers_misshapen : misshapen limit a ≡ true → small_reply Misshapen a ≡ small_arena limit a index
+  answers_misshapen m = sym (wrong_lengths limit a index m)
 
-  pub answers-past : misshapen limit a ≡ false → 90 ≤ index → small_reply Past a ≡ small_arena limit a index
-  answers-past m h = sym (past_the_last limit a index m h)
+  pub answers_past : misshapen limit a ≡ false → 90 ≤ index → small_reply Past a ≡ small_arena limit a index
+  answers_past m h = sym (past_the_last limit a index m h)
 
   module _ (p n : ℕ) (m : misshapen limit a ≡ false) (h : index < 90) (e : unpacked p ≡ entry small_arenas index) (d : n ≡ digit p 1) where
     stack_is : stack_length (entry small_arenas index) ≡ n
     stack_is = ap (λ (b : Arena). stack_length b) (sym e) ∙ stack_of p ∙ sym d
 
-    pub answers-short : capacity a < n → small_reply Short a ≡ small_arena limit a index
-    answers-short l = sym (too_short limit a index m h (omega (arith, stack_is)))
+    pub answers_short : capacity a < n → small_reply Short a ≡ small_arena limit a index
+    answers_short l = sym (too_short limit a index m h (omega (arith, stack_is)))
 
     pub room_for : n ≤ capacity a → RoomFor (unpacked p) a
     room_for l =
@@ -45,5 +45,5 @@ module _ (limit : ℕ) (a : Arena) (index : ℕ) where
           header = s.header;
         }
 
-    pub answers-found : n ≤ capacity a → (left : Arena) → left ≡ laid_in (unpacked p) a → small_reply (Found n) left ≡ small_arena limit a index
-    answers-found l left f = rw (f, e, ← stack_is) (sym (laid limit a index m h (omega (arith, stack_is))))
+    pub answers_found : n ≤ capacity a → (left : Arena) → left ≡ laid_in (unpacked p) a → small_reply (Found n) left ≡ small_arena limit a index
+    answers_found l left f = rw (f, e, ← stack_is) (sym (laid limit a index m h (omega (arith, stack_is))))

@@ -1,8 +1,8 @@
 // A small arena laid into lent columns, word by word from the number that it is packed into (REFERENCE, Small arenas).
 ghost use Rattle.std.specs.Prelude.{◌≡◌, ◌≤◌, ◌<◌, length};
-ghost use Rattle.definitions.specs.Arena.{capacity_limit, header_words};
+ghost use Rattle.definitions.specs.Arena.{capacity_limit, header_words, arena};
 ghost use Rattle.definitions.specs.Columns.{written};
-ghost use Rattle.definitions.specs.Lent.{lent, at_entry, at_exit};
+ghost use Rattle.definitions.specs.Lent.{lent};
 ghost use Rattle.all_small.specs.SmallArena.{laid_in, small_arena};
 ghost use Rattle.all_small.proofs.Packed.{digit, digits, unpacked};
 ghost use Rattle.small_layout.specs.Laid.{RoomFor, small_reply};
@@ -13,7 +13,7 @@ use ptr::Gen;
 use small_table::{SMALL_ARENAS, packed_arena};
 
 // What is answered of an index.
-#[derive(Drop)]
+#[derive(Clone, Copy)]
 pub enum SmallArena {
     // The columns hold the small arena of this index; its stack length.
     Found(u32),
@@ -68,8 +68,8 @@ fn lay(
     header: &mut [u32],
     packed: u32,
 )
-    requires { RoomFor (unpacked packed) (lent prev next generation payload header) }
-    ensures { at_exit prev next generation payload header ≡ laid_in (unpacked packed) (at_entry prev next generation payload header) }
+    requires { RoomFor (unpacked packed) (arena prev.old next.old generation.old payload.old header.old) }
+    ensures { arena prev.new next.new generation.new payload.new header.new ≡ laid_in (unpacked packed) (arena prev.old next.old generation.old payload.old header.old) }
 {
     let n = word_of(packed, 1) as usize;
     let rows = packed / 64;
@@ -89,7 +89,7 @@ pub fn small_arena(
     header: &mut [u32],
     index: u32,
 ) -> SmallArena
-    ensures { small_reply result (at_exit prev next generation payload header) ≡ small_arena capacity_limit (at_entry prev next generation payload header) index }
+    ensures { small_reply result (arena prev.new next.new generation.new payload.new header.new) ≡ small_arena capacity_limit (arena prev.old next.old generation.old payload.old header.old) index }
 {
     if is_misshapen(&*prev, &*next, &*generation, &*payload, &*header) {
         return SmallArena::Misshapen;

@@ -1,4 +1,6 @@
 // The table of all small arenas, each packed into one number (REFERENCE, Small arenas).
+#![tactic(auto)]
+
 ghost use Rattle.std.specs.Prelude.{◌≡◌, ◌<◌};
 ghost use Rattle.statements.specs.SmallArenas.{entry};
 ghost use Rattle.all_small.specs.SmallArenas.{small_arenas};

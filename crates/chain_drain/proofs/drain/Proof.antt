@@ -8,7 +8,7 @@ use Rattle.chain_iterators.specs.Walk.{walk_of}
 use Rattle.chain_traits.specs.Read.{pointer_of}
 use Rattle.chain_ahead.specs.Ahead.{slots_ahead}
 use Rattle.chain_ahead.proofs.Started.{StartedAt, started, started_on_chain}
-use Rattle.chain_drain.proofs.Answers.{drain-none, drain-short, has_room, listed-room, drain-can, drain-done}
+use Rattle.chain_drain.proofs.Answers.{drain_none, drain_short, has_room, listed_room, drain_can, drain_done}
 use Rattle.well_formed.proofs.WellFormed.{shape_if_well_formed}
 use Rattle.chain_drain.proofs.drain.Statement.{statement}
 use Rattle.chain_drain.proofs.drain.Tie as tie
@@ -40,7 +40,7 @@ advancer-chain-requires c κs = let start : tie.Start = search in shape_if_well_
 returns : tie.Need-returns
 returns c =
     let told : tie.After-advancer-chain = search in
-    drain-none _ _ _ _ (rw c.enum_told.given.1 at told.advancer-chain.ensures)
+    drain_none _ _ _ _ (rw c.enum_told.given.1 at told.advancer-chain.ensures)
 
 too-short-requires : tie.Need-too-short-requires
 unfolding start
@@ -51,7 +51,7 @@ unfolding start
 returns-2 c =
     let told : tie.After-too-short = search in
     let arm : tie.After-started = search in
-    drain-short (walk arm) _ _ told.too_short.ensures c.if1.true
+    drain_short (walk arm) _ _ told.too_short.ensures c.if1.true
 
 list-slots-requires : tie.Need-list-slots-requires
 unfolding arm start
@@ -63,7 +63,7 @@ drain-items-requires c κs =
     let listed : tie.After-list-slots = search in
     let on : tie.Else1 = search in
     let list = listed.list-slots.ensures in
-    (drain-can (walk (arm on)) list (start (arm on)).pre, listed-room list (search) (room on))
+    (drain_can (walk (arm on)) list (start (arm on)).pre, listed_room list (search) (room on))
 
 same-length-16 : tie.Need-same-length-16
 same-length-16 c =
@@ -77,7 +77,7 @@ returns-3 c =
     let done : tie.After-drain-items = search in
     let listed : tie.After-list-slots = search in
     let on : tie.Else1 = search in
-    drain-done (walk (arm on)) listed.list-slots.ensures (room on) done.drain_items.ensures
+    drain_done (walk (arm on)) listed.list-slots.ensures (room on) done.drain_items.ensures
 
 pub drain-spec : {M : Type 1} → statement M
 drain-spec =

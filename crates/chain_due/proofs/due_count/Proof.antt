@@ -7,7 +7,7 @@ use Rattle.chain_ahead.proofs.Started.{StartedAt, started, started_on_chain}
 use Rattle.well_formed.proofs.WellFormed.{shape_if_well_formed}
 use Rattle.chain_traits.specs.Read.{pointer_of}
 use Rattle.chain_due.specs.Due.{IsWindow}
-use Rattle.chain_due.proofs.Answers.{count-stale, count-no-window, count_done}
+use Rattle.chain_due.proofs.Answers.{count_stale, count_no_window, count_done}
 use Rattle.chain_due.proofs.due_count.Statement.{statement}
 use Rattle.chain_due.proofs.due_count.Tie as tie
 
@@ -26,7 +26,7 @@ module _ (arm : tie.After-walk) where
 returns : tie.Need-returns
 returns c =
     let told : tie.After-advancer-chain = search in
-    count-stale _ _ (rw c.enum_told.given.1 at told.advancer-chain.ensures) _
+    count_stale _ _ (rw c.enum_told.given.1 at told.advancer-chain.ensures) _
 
 returns-2 : tie.Need-returns-2
 unfolding start
@@ -34,7 +34,7 @@ returns-2 c =
     let none : tie.Then1 = search in
     let asked : tie.After-is-window = search in
     let arm : tie.After-walk = search in
-    count-no-window (walk arm) _ (came_false _ _ asked.is-window.ensures none.if1.taken) _
+    count_no_window (walk arm) _ (came_false _ _ asked.is-window.ensures none.if1.taken) _
 
 -- the window is one
 module _ (on : tie.Else1) where

@@ -8,7 +8,7 @@ use Rattle.chain_ahead.proofs.Started.{StartedAt, started, started_on_chain}
 use Rattle.well_formed.proofs.WellFormed.{shape_if_well_formed}
 use Rattle.chain_traits.specs.Read.{pointer_of}
 use Rattle.chain_due.specs.Due.{IsWindow}
-use Rattle.chain_due.proofs.Answers.{events-stale, events-no-window, events-short, events_done}
+use Rattle.chain_due.proofs.Answers.{events_stale, events_no_window, events_short, events_done}
 use Rattle.chain_due.proofs.due_events.Statement.{statement}
 use Rattle.chain_due.proofs.due_events.Tie as tie
 
@@ -27,7 +27,7 @@ module _ (arm : tie.After-walk) where
 returns : tie.Need-returns
 returns c =
     let told : tie.After-advancer-chain = search in
-    events-stale _ _ (rw c.enum_told.given.1 at told.advancer-chain.ensures) _
+    events_stale _ _ (rw c.enum_told.given.1 at told.advancer-chain.ensures) _
 
 returns-2 : tie.Need-returns-2
 unfolding start
@@ -35,7 +35,7 @@ returns-2 c =
     let none : tie.Then1 = search in
     let asked : tie.After-is-window = search in
     let arm : tie.After-walk = search in
-    events-no-window (walk arm) _ (came_false _ _ asked.is-window.ensures none.if1.taken) _
+    events_no_window (walk arm) _ (came_false _ _ asked.is-window.ensures none.if1.taken) _
 
 -- the window is one
 module _ (on : tie.Else1) where
@@ -60,7 +60,7 @@ returns-3 c =
     let asked : tie.After-too-few = search in
     let on : tie.Else1 = search in
     let arm : tie.After-walk = search in
-    events-short (walk arm) _ (ends on) _ (said_true _ _ asked.too_few.ensures few.if2.taken)
+    events_short (walk arm) _ (ends on) _ (said_true _ _ asked.too_few.ensures few.if2.taken)
 
 list-due-requires : tie.Need-list-due-requires
 unfolding begun start

@@ -3,7 +3,7 @@ use Prim.Native.Nat.{ℕ}
 use mathlib.Core.Path.{sym, ◌∙◌}
 use borrow.Author.Rules.{rules}
 use Rattle.definitions.specs.Arena.{Arena, arena, capacity_limit}
-use Rattle.small_layout.proofs.Answers.{answers-misshapen, answers-past, answers-short, room_for, answers-found}
+use Rattle.small_layout.proofs.Answers.{answers_misshapen, answers_past, answers_short, room_for, answers_found}
 use Rattle.small_layout.proofs.small_arena.Statement.{statement}
 use Rattle.small_layout.proofs.small_arena.Tie as tie
 
@@ -20,14 +20,14 @@ returns : tie.Need-returns
 returns c =
     let wrong : tie.Then1 = search in
     let told : tie.After-is-misshapen = search in
-    answers-misshapen capacity_limit (lent told) (asked told) (sym told.is-misshapen.ensures ∙ wrong.if1.taken)
+    answers_misshapen capacity_limit (lent told) (asked told) (sym told.is-misshapen.ensures ∙ wrong.if1.taken)
 
 returns-2 : tie.Need-returns-2
 returns-2 c =
     let past : tie.Then2 = search in
     let on : tie.Else1 = search in
     let told : tie.After-is-misshapen = search in
-    answers-past capacity_limit (lent told) (asked told) (sym told.is-misshapen.ensures ∙ on.if1.left) past.if2.taken
+    answers_past capacity_limit (lent told) (asked told) (sym told.is-misshapen.ensures ∙ on.if1.left) past.if2.taken
 
 returns-3 : tie.Need-returns-3
 returns-3 c =
@@ -37,7 +37,7 @@ returns-3 c =
     let within : tie.Else2 = search in
     let on : tie.Else1 = search in
     let told : tie.After-is-misshapen = search in
-    answers-short capacity_limit (lent told) (asked told) packed.packed-arena.result stack.word_of.result (sym told.is-misshapen.ensures ∙ on.if1.left) within.if2.left packed.packed-arena.ensures stack.word_of.ensures short.if3.taken
+    answers_short capacity_limit (lent told) (asked told) packed.packed-arena.result stack.word_of.result (sym told.is-misshapen.ensures ∙ on.if1.left) within.if2.left packed.packed-arena.ensures stack.word_of.ensures short.if3.taken
 
 lay-requires : tie.Need-lay-requires
 lay-requires c κs =
@@ -58,7 +58,7 @@ returns-4 c =
     let within : tie.Else2 = search in
     let on : tie.Else1 = search in
     let told : tie.After-is-misshapen = search in
-    answers-found capacity_limit (lent told) (asked told) packed.packed-arena.result stack.word_of.result (sym told.is-misshapen.ensures ∙ on.if1.left) within.if2.left packed.packed-arena.ensures stack.word_of.ensures long.if3.left _ laid.lay.ensures
+    answers_found capacity_limit (lent told) (asked told) packed.packed-arena.result stack.word_of.result (sym told.is-misshapen.ensures ∙ on.if1.left) within.if2.left packed.packed-arena.ensures stack.word_of.ensures long.if3.left _ laid.lay.ensures
 
 pub small-arena-spec : {M : Type 1} → statement M
 small-arena-spec =
