@@ -1,4 +1,6 @@
 // A new link's slot, and its words in all columns (arena/impl_arena_trait.rs, and the interlinks of chain/impl_chain_arena_trait.rs).
+#![tactic(auto)]
+
 ghost use Rattle.std.specs.Prelude.{◌≡◌, cond, List, ℕ, ◌+◌, ◌≤◌, ◌<◌, eqb, length, get_or};
 ghost use Rattle.definitions.specs.Columns.{at, put};
 ghost use Rattle.definitions.specs.Arena.{arena, capacity_limit, header_words};

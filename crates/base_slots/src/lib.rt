@@ -1,4 +1,6 @@
 // The parts of a removal (arena/base_arena.rs): joining the neighbours of a slot, counting it off, popping it or putting it on the freelist.
+#![tactic(auto)]
+
 ghost use Rattle.std.specs.Prelude.{◌≡◌, cond, List, ℕ, ◌-◌, ◌≤◌, ◌<◌, eqb, length, get_or};
 ghost use Rattle.definitions.specs.Arena.{arena, largest_generation, header_words, with_stack_length, with_root};
 ghost use Rattle.definitions.specs.Remove.{joined, vacated};

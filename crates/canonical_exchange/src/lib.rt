@@ -1,4 +1,6 @@
 // The exchange of two slots in canonical compression: a link and what is where it goes change places, and both are renamed where their neighbours name them.
+#![tactic(auto)]
+
 ghost use Rattle.std.specs.Prelude.{◌≡◌, ◌≤◌, length};
 ghost use Rattle.definitions.specs.Columns.{put};
 ghost use Rattle.definitions.specs.Compress.{exchange_words};

@@ -21,7 +21,7 @@ pub relist-root-requires : goal.relist-root-requires
 relist-root-requires c = omega (arith, shaped _ _ c.requires, ends_within _ _ _ c.highest_link-m.ensures)
 
 pub pop_slots-requires : goal.pop_slots-requires
-pop_slots-requires c = omega (arith, shaped _ _ c.requires, ends_within _ _ _ c.highest_link-m.ensures, c.relist-root.kept)
+pop_slots-requires c = omega (arith, shaped _ _ c.requires, ends_within _ _ _ c.highest_link-m.ensures, c.relist-root.auto)
 
 pub bounds-header-2 : goal.bounds-header-2
 bounds-header-2 c = omega (arith, shaped _ _ c.requires)

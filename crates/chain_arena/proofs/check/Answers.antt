@@ -11,49 +11,36 @@ use Rattle.chain_arena.proofs.Verdict.{checks_shape, checks_counts, checks_broke
 use borrow.Author.Rules.{rules}
 use Rattle.chain_arena.proofs.check.Goals as goal
 
--- TODO over a place
--- the arena that was lent, and its shape after the first test
-abbrev lent : tie.Else1 → Arena
-lent c =
-    let start : tie.Start = search in
-    arena start.args.prev.now start.args.next.now start.args.generation.now start.args.payload.now start.args.header.now
-
--- TODO over a place
-shape-passed : (c : tie.Else1) → Shaped capacity_limit (lent c)
-shape-passed c =
-    let found : tie.After-shape = search in
-    shaped_if_accepted _ _ (sym found.shape.ensures ∙ c.if1.false)
-
 pub returns-then-misshapen-ne0 : goal.returns-then-misshapen-ne0
 returns-then-misshapen-ne0 c = checks_shape _ _ c.shape-misshapen.ensures c.if-misshapen-ne0.true
 
 pub bounds-header-0 : goal.bounds-header-0
-bounds-header-0 c = omega (arith, shape-passed (search))
+bounds-header-0 c = omega (arith, shaped_if_accepted _ _ (sym c.shape-misshapen.ensures ∙ c.if-misshapen-ne0.false))
 
 pub bounds-header-1 : goal.bounds-header-1
-bounds-header-1 c = omega (arith, shape-passed (search))
+bounds-header-1 c = omega (arith, shaped_if_accepted _ _ (sym c.shape-misshapen.ensures ∙ c.if-misshapen-ne0.false))
 
 pub bounds-header-2 : goal.bounds-header-2
-bounds-header-2 c = omega (arith, shape-passed (search))
+bounds-header-2 c = omega (arith, shaped_if_accepted _ _ (sym c.shape-misshapen.ensures ∙ c.if-misshapen-ne0.false))
 
 pub counts-miscounted-requires : goal.counts-miscounted-requires
-counts-miscounted-requires c = omega (arith, shape-passed (search))
+counts-miscounted-requires c = omega (arith, shaped_if_accepted _ _ (sym c.shape-misshapen.ensures ∙ c.if-misshapen-ne0.false))
 
 pub returns-then-miscounted-ne0 : goal.returns-then-miscounted-ne0
-returns-then-miscounted-ne0 c = checks_counts _ _ (shape-passed (search)) c.counts-miscounted.ensures c.if-miscounted-ne0.true
+returns-then-miscounted-ne0 c = checks_counts _ _ (shaped_if_accepted _ _ (sym c.shape-misshapen.ensures ∙ c.if-misshapen-ne0.false)) c.counts-miscounted.ensures c.if-miscounted-ne0.true
 
 pub interlinks-broken-requires : goal.interlinks-broken-requires
-interlinks-broken-requires c = omega (arith, shape-passed (search))
+interlinks-broken-requires c = omega (arith, shaped_if_accepted _ _ (sym c.shape-misshapen.ensures ∙ c.if-misshapen-ne0.false))
 
 -- the slot that `interlinks` found is one of the stack, or 0
 pub overflow_cast-slot : goal.overflow_cast-slot
-overflow_cast-slot c = omega (arith, shape-passed (search), first_within _ _ _ _ _ c.interlinks-broken.ensures)
+overflow_cast-slot c = omega (arith, shaped_if_accepted _ _ (sym c.shape-misshapen.ensures ∙ c.if-misshapen-ne0.false), first_within _ _ _ _ _ c.interlinks-broken.ensures)
 
 pub broken_side-side-requires : goal.broken_side-side-requires
-broken_side-side-requires c = omega (arith, shape-passed (search), first_within _ _ _ _ _ c.interlinks-broken.ensures)
+broken_side-side-requires c = omega (arith, shaped_if_accepted _ _ (sym c.shape-misshapen.ensures ∙ c.if-misshapen-ne0.false), first_within _ _ _ _ _ c.interlinks-broken.ensures)
 
 pub returns-then-broken-ne0 : goal.returns-then-broken-ne0
-returns-then-broken-ne0 c = checks_broken _ (shape-passed (search)) (sym c.counts-miscounted.ensures ∙ c.if-miscounted-ne0.false) _ c.interlinks-broken.ensures _ c.if-broken-ne0.true c.broken_side-side.ensures
+returns-then-broken-ne0 c = checks_broken _ (shaped_if_accepted _ _ (sym c.shape-misshapen.ensures ∙ c.if-misshapen-ne0.false)) (sym c.counts-miscounted.ensures ∙ c.if-miscounted-ne0.false) _ c.interlinks-broken.ensures _ c.if-broken-ne0.true c.broken_side-side.ensures
 
 pub returns : goal.returns
-returns c = checks_passed _ (shape-passed (search)) (sym c.counts-miscounted.ensures ∙ c.if-miscounted-ne0.false) _ c.interlinks-broken.ensures c.if-broken-ne0.false
+returns c = checks_passed _ (shaped_if_accepted _ _ (sym c.shape-misshapen.ensures ∙ c.if-misshapen-ne0.false)) (sym c.counts-miscounted.ensures ∙ c.if-miscounted-ne0.false) _ c.interlinks-broken.ensures c.if-broken-ne0.false
