@@ -1,4 +1,6 @@
 // Removal of a slot (arena/base_arena.rs, `remove_internal`, and the joining of its neighbours in chain/impl_chain_arena_trait.rs).
+#![tactic(auto)]
+
 ghost use Rattle.std.specs.Prelude.{◌-◌};
 ghost use Rattle.definitions.specs.Arena.{largest_generation, arena};
 ghost use Rattle.base_slots.specs.Removal.{Removable, TakenOut};

@@ -1,4 +1,6 @@
 // Connect, break and exchange (chain/impl_chain_arena_trait.rs) on an arena that passed the check.
+#![tactic(auto)]
+
 ghost use Rattle.std.specs.Prelude.{◌≡◌, cond, [], ◌≤◌, ◌<◌, length};
 ghost use Rattle.definitions.specs.Columns.{put};
 ghost use Rattle.definitions.specs.Arena.{capacity_limit, arena};

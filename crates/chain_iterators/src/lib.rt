@@ -1,4 +1,6 @@
 // The walk along a chain (chain/chain_iterators.rs) in an arena that passed the check.
+#![tactic(auto)]
+
 ghost use Rattle.std.specs.Prelude.{◌≡◌, true, cond, [], ◌-◌, ◌≤◌, ◌<◌, length};
 ghost use Rattle.definitions.specs.Columns.{at};
 ghost use Rattle.definitions.specs.Arena.{capacity_limit, allocated, is_link};

@@ -1,4 +1,6 @@
 // The kinds of insertion (`LinkInsertKind` of chain/chain_traits.rs), and their codes (REFERENCE, Insert).
+#![tactic(auto)]
+
 ghost use Rattle.std.specs.Prelude.{◌≡◌};
 ghost use Rattle.definitions.specs.Insert.{kind_of};
 ghost use Rattle.chain_traits.specs.Read.{pointer_of};

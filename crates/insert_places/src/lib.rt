@@ -1,5 +1,7 @@
 // Places of a new link in an arena that passed the check: whether the links that a kind names are there, and between which slots the new one goes
 // (chain/impl_chain_arena_trait.rs).
+#![tactic(auto)]
+
 ghost use Rattle.std.specs.Prelude.{◌≡◌, ◌&&◌, ◌≤◌, eqb, length};
 ghost use Rattle.definitions.specs.Columns.{at};
 ghost use Rattle.definitions.specs.Insert.{by_pointer, by_slot, place_if};

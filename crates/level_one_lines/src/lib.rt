@@ -1,4 +1,6 @@
 // Level One, the lines and dots of the frame, as a host calls it.
+#![tactic(auto)]
+
 ghost use Rattle.std.specs.Prelude.{[], ◌∷◌, ◌≡◌};
 ghost use Rattle.definitions.specs.Clock.{told, line_of_dot, line_dots};
 

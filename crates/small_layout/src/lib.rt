@@ -1,4 +1,6 @@
 // A small arena laid into lent columns, word by word from the number that it is packed into (REFERENCE, Small arenas).
+#![tactic(auto)]
+
 ghost use Rattle.std.specs.Prelude.{◌≡◌, ◌≤◌, ◌<◌, length};
 ghost use Rattle.definitions.specs.Arena.{capacity_limit, header_words, arena};
 ghost use Rattle.definitions.specs.Columns.{written};

@@ -1,0 +1,36 @@
+-- `base_removal::take_out` meets its contract. Joining leaves the columns' lengths, and counting leaves stack length and root, so the slot is then popped or freed as
+-- the definition says. Assumes nothing.
+use mathlib.Core.Path.{◌∙◌}
+use borrow.Author.Rules.{rules}
+use Rattle.base_slots.proofs.Removed.{poppable, freeable, last_out, other_out}
+use Rattle.base_removal.proofs.take_out.Goals as goal
+
+pub pop-requires : goal.pop-requires
+pop-requires c = poppable c.requires c.join.auto.0 c.join.auto.1.0 c.count_removal-overflow.ensures c.count_removal-overflow.auto.0 c.if-last-n.true
+
+pub free-requires : goal.free-requires
+free-requires c = freeable c.requires c.join.auto.0 c.join.auto.1.0 c.count_removal-overflow.ensures c.count_removal-overflow.auto.0
+
+pub shape_of-prev-then-last-n : goal.shape_of-prev-then-last-n
+shape_of-prev-then-last-n c = c.pop.auto.0 ∙ c.join.auto.0
+
+pub shape_of-next-then-last-n : goal.shape_of-next-then-last-n
+shape_of-next-then-last-n c = c.pop.auto.1.0 ∙ c.join.auto.1.0
+
+pub shape_of-header-then-last-n : goal.shape_of-header-then-last-n
+shape_of-header-then-last-n c = c.pop.auto.1.1.1.1.0 ∙ c.count_removal-overflow.auto.0
+
+pub returns-then-last-n : goal.returns-then-last-n
+returns-then-last-n c = last_out (c.join.ensures _ _ _) c.count_removal-overflow.ensures c.if-last-n.true c.pop.ensures
+
+pub shape_of-prev-else-last-n : goal.shape_of-prev-else-last-n
+shape_of-prev-else-last-n c = c.free.auto.0 ∙ c.join.auto.0
+
+pub shape_of-next-else-last-n : goal.shape_of-next-else-last-n
+shape_of-next-else-last-n c = c.free.auto.1.0 ∙ c.join.auto.1.0
+
+pub shape_of-header-else-last-n : goal.shape_of-header-else-last-n
+shape_of-header-else-last-n c = c.free.auto.1.1.1.1.0 ∙ c.count_removal-overflow.auto.0
+
+pub returns-else-last-n : goal.returns-else-last-n
+returns-else-last-n c = other_out (c.join.ensures _ _ _) c.count_removal-overflow.ensures c.if-last-n.false c.free.ensures

@@ -1,0 +1,21 @@
+-- `compress_moves::move_link` meets its contract: the words of slot s have index s - 1, and are read before any is written. Assumes nothing.
+use mathlib.Core.Path.{◌≡◌, refl, ap, ◌∙◌}
+use native.Mathlib.Omega.{arith}
+use borrow.Author.Rules.{rules}
+use Rattle.definitions.specs.Columns.{at}
+use Rattle.definitions.proofs.Columns.{at_place}
+use Rattle.compress_moves.proofs.move_link.Goals as goal
+
+pub new_slot-before-requires : goal.new_slot-before-requires
+new_slot-before-requires c = rw (at_place c.args.prev.now c.args.s (omega arith)) c.requires.1.0
+
+pub new_slot-after-requires : goal.new_slot-after-requires
+new_slot-after-requires c = rw (at_place c.args.next.now c.args.s (omega arith)) c.requires.1.1
+
+pub returns : goal.returns
+returns c =
+    let a = c.args in
+    let some : a.s ≡ 0 → ⊥ = omega arith in
+    let prev = c.new_slot-before.ensures ∙ ap (at a.numbers.now) (at_place a.prev.now a.s some) in
+    let next = c.new_slot-after.ensures ∙ ap (at a.numbers.now) (at_place a.next.now a.s some) in
+    (rw prev refl, rw next refl, rw (at_place a.payload.now a.s some) refl)
