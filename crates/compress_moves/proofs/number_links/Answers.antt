@@ -1,3 +1,11 @@
+use Prim.Native.Nat.{ℕ, ◌-◌, ◌<◌}
+use mathlib.Core.Path.{refl}
+use mathlib.Core.Logic.{⊎_elim}
+use mathlib.Core.List.{List, []}
+use native.Mathlib.Omega.{arith}
+use borrow.Author.Rules.{rules}
+use Rattle.definitions.specs.Arena.{Arena, arena}
+use Rattle.compress_moves.proofs.Numbers.{Numbering, numbering_starts, numbering_within, numbering_skips, numbering_names, numbering_done, numbered_any}
 use Rattle.compress_moves.proofs.number_links.Goals as goal
 use Rattle.compress_moves.proofs.number_links.Goals.{else-old-ne0, then-old-ne0}
 
@@ -13,28 +21,6 @@ entry turn = search
 -- in a turn, slot i + 1 is one of the stack's
 slot-left : (turn : tie.In-loop invariant-loop decreases-loop) → turn.before.loop.i < (entry turn).args.n
 slot-left turn = numbering_within turn.before.loop.invariant (entry turn).requires.2 turn.loop-test.true
-
--- TODO
--- `compress_moves::number_links` meets its contract. The loop's invariant: the links in the first i slots are numbered and reported, and the
--- generations from place i on are the old ones. While links are left so are slots, and the measure is how many. Assumes nothing.
--- use Prim.Native.Nat.{ℕ, ◌-◌, ◌<◌}
--- use mathlib.Core.Path.{refl}
--- use mathlib.Core.Logic.{⊎_elim}
--- use mathlib.Core.List.{List, []}
--- use native.Mathlib.Omega.{arith}
--- use borrow.Author.Rules.{rules}
--- use Rattle.definitions.specs.Arena.{Arena, arena}
--- use Rattle.compress_moves.proofs.Numbers.{
---   Numbering,
---   numbering_starts,
---   numbering_within,
---   numbering_skips,
---   numbering_names,
---   numbering_done,
---   numbered_any,
--- }
--- use Rattle.compress_moves.proofs.number_links.Statement.{statement}
--- use Rattle.compress_moves.proofs.number_links.Tie as tie
 
 pub loop-count-init : goal.loop-count-init
 loop-count-init c = numbering_starts _ _ _ _ _
