@@ -6,31 +6,31 @@ use Rattle.base_slots.proofs.Removed.{poppable, freeable, last_out, other_out}
 use Rattle.base_removal.proofs.take_out.Goals as goal
 
 pub pop-requires : goal.pop-requires
-pop-requires c = poppable c.requires c.join.auto.0 c.join.auto.1.0 c.count_removal-overflow.ensures c.count_removal-overflow.auto.0 c.if-last-n.true
+pop-requires c = poppable c.requires c.join.auto.prev c.join.auto.next c.count_removal-overflow.ensures c.count_removal-overflow.auto.header c.if-last-n.true
 
 pub free-requires : goal.free-requires
-free-requires c = freeable c.requires c.join.auto.0 c.join.auto.1.0 c.count_removal-overflow.ensures c.count_removal-overflow.auto.0
+free-requires c = freeable c.requires c.join.auto.prev c.join.auto.next c.count_removal-overflow.ensures c.count_removal-overflow.auto.header
 
 pub shape_of-prev-then-last-n : goal.shape_of-prev-then-last-n
-shape_of-prev-then-last-n c = c.pop.auto.0 ∙ c.join.auto.0
+shape_of-prev-then-last-n c = c.pop.auto.prev ∙ c.join.auto.prev
 
 pub shape_of-next-then-last-n : goal.shape_of-next-then-last-n
-shape_of-next-then-last-n c = c.pop.auto.1.0 ∙ c.join.auto.1.0
+shape_of-next-then-last-n c = c.pop.auto.next ∙ c.join.auto.next
 
 pub shape_of-header-then-last-n : goal.shape_of-header-then-last-n
-shape_of-header-then-last-n c = c.pop.auto.1.1.1.1.0 ∙ c.count_removal-overflow.auto.0
+shape_of-header-then-last-n c = c.pop.auto.header ∙ c.count_removal-overflow.auto.header
 
 pub returns-then-last-n : goal.returns-then-last-n
 returns-then-last-n c = last_out (c.join.ensures _ _ _) c.count_removal-overflow.ensures c.if-last-n.true c.pop.ensures
 
 pub shape_of-prev-else-last-n : goal.shape_of-prev-else-last-n
-shape_of-prev-else-last-n c = c.free.auto.0 ∙ c.join.auto.0
+shape_of-prev-else-last-n c = c.free.auto.prev ∙ c.join.auto.prev
 
 pub shape_of-next-else-last-n : goal.shape_of-next-else-last-n
-shape_of-next-else-last-n c = c.free.auto.1.0 ∙ c.join.auto.1.0
+shape_of-next-else-last-n c = c.free.auto.next ∙ c.join.auto.next
 
 pub shape_of-header-else-last-n : goal.shape_of-header-else-last-n
-shape_of-header-else-last-n c = c.free.auto.1.1.1.1.0 ∙ c.count_removal-overflow.auto.0
+shape_of-header-else-last-n c = c.free.auto.header ∙ c.count_removal-overflow.auto.header
 
 pub returns-else-last-n : goal.returns-else-last-n
 returns-else-last-n c = other_out (c.join.ensures _ _ _) c.count_removal-overflow.ensures c.if-last-n.false c.free.ensures

@@ -63,7 +63,7 @@ returns-in-19 c = rw c.in-19.is refl
 pub returns-in_default : goal.returns-in_default
 unfolding kind_of
 returns-in_default c = let none =
-    c.in_default.rest in rw (
+    c.in_default.in_default-own.rest in rw (
     ne_eqb _ 6 none.0.0.0.0.0.0.0.0.0.0.0.0.0.1,
     ne_eqb _ 7 none.0.0.0.0.0.0.0.0.0.0.0.0.1,
     ne_eqb _ 8 none.0.0.0.0.0.0.0.0.0.0.0.1,
