@@ -40,6 +40,11 @@ pub record Beside (a : Arena) (p : Pointer) (after : Bool) (k : ℕ) : Type 0 wh
   pub stands : Joinable a.prev a.next p.slot
   pub word : k ≡ neighbour a p after
 
+-- the neighbour is picked out of the two that were read
+pub beside : (a : Arena) (p : Pointer) (after : Bool) (k x y : ℕ) → stale a p ≡ false → Joinable a.prev a.next p.slot
+    → x ≡ at a.prev p.slot → y ≡ at a.next p.slot → k ≡ cond after y x → Beside a p after k
+beside a p after k x y f s ex ey e = record { fresh = f; stands = s; word = rw (← ex, ← ey) e }
+
 module _ {a : Arena} {p : Pointer} {after : Bool} {k : ℕ} (here : Beside a p after k) where
   pub side_none : k ≡ 0 → refusal 13 0 a [] ≡ break_side a p after
   side_none z = rw (side, here.fresh, eq-eqb _ 0 (sym here.word ∙ z)) refl

@@ -6,10 +6,10 @@ use Rattle.base_slots.proofs.Removed.{poppable, freeable, last_out, other_out}
 use Rattle.base_removal.proofs.take_out.Goals as goal
 
 pub pop-requires : goal.pop-requires
-pop-requires c = poppable c.requires c.join.auto.prev c.join.auto.next c.count_removal-overflow.ensures c.count_removal-overflow.auto.header c.if-last-n.true
+pop-requires c = let whole = poppable c.requires c.join.auto.prev c.join.auto.next c.count_removal-overflow.ensures c.count_removal-overflow.auto.header c.if-last-n.true in record { stands = whole.0; header_len = whole.1 }
 
 pub free-requires : goal.free-requires
-free-requires c = freeable c.requires c.join.auto.prev c.join.auto.next c.count_removal-overflow.ensures c.count_removal-overflow.auto.header
+free-requires c = let whole = freeable c.requires c.join.auto.prev c.join.auto.next c.count_removal-overflow.ensures c.count_removal-overflow.auto.header in record { stands = whole.0; header_len = whole.1 }
 
 pub shape_of-prev-then-last-n : goal.shape_of-prev-then-last-n
 shape_of-prev-then-last-n c = c.pop.auto.prev ∙ c.join.auto.prev

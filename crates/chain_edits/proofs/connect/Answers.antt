@@ -41,10 +41,14 @@ returns-then-slot_at-ne0-2 c =
     search reads depth 20
 
 pub set_at-requires : goal.set_at-requires
-set_at-requires c = slot-at-requires read κs
+set_at-requires c =
+    let here = around _ c.requires (is_fresh _ _ _ c.stale.ensures c.if-stale.false) in
+    (here.some, here.in_next)
 
 pub set_at-requires-2 : goal.set_at-requires-2
-set_at-requires-2 c = slot-at-requires-2 read κs
+set_at-requires-2 c =
+    let here = around _ c.requires (is_fresh _ _ _ c.stale-2.ensures c.if-stale-2.false) in
+    (here.some, here.in_prev)
 
 pub returns : goal.returns
 unfolding connect

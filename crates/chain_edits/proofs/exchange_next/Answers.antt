@@ -13,39 +13,6 @@ use Rattle.chain_traits.proofs.Fresh.{is_fresh, reads}
 use Rattle.chain_traits.specs.Read.{pointer_of}
 use Rattle.chain_edits.proofs.exchange_next.Goals as goal
 
--- TODO
--- past the two tests neither pointer is stale
--- module _ (on : tie.Else2) where
---   start : tie.Start
---   start = search
-
--- TODO
---   abbrev was : Arena
---   was = let s = start.args in lent s.prev s.next s.generation s.payload s.header
-
--- TODO
---   fresh0 : stale was (pointer_of start.args.p0) ≡ false
---   unfolding start
---   fresh0 =
---       let fine : tie.Else1 = search in
---       let told : tie.After-stale = search in
---       is_fresh _ _ _ told.stale.ensures fine.if1.left
-
--- TODO
---   fresh1 : stale was (pointer_of start.args.p1) ≡ false
---   unfolding start
---   fresh1 = let told : tie.After-stale2 = search in is_fresh _ _ _ told.stale2.ensures on.if2.left
-
--- TODO
---   at-p0 : Joinable was.prev was.next start.args.p0.inx.0
---   unfolding start
---   at-p0 = around _ start.pre fresh0
-
--- TODO
---   at-p1 : Joinable was.prev was.next start.args.p1.inx.0
---   unfolding start
---   at-p1 = around _ start.pre fresh1
-
 pub returns-then-stale : goal.returns-then-stale
 unfolding exchange_next
 returns-then-stale c = search reads depth 20
@@ -55,12 +22,14 @@ unfolding exchange_next
 returns-then-stale-2 c = search reads depth 20
 
 pub slot_at-d0-requires : goal.slot_at-d0-requires
-unfolding start
-slot_at-d0-requires c = ((at-p0 on).some, (at-p0 on).in_next)
+slot_at-d0-requires c =
+    let at_p0 = around _ c.requires (is_fresh _ _ _ c.stale.ensures c.if-stale.false) in
+    (at_p0.some, at_p0.in_next)
 
 pub slot_at-d1-requires : goal.slot_at-d1-requires
-unfolding start
-slot_at-d1-requires c = ((at-p1 on).some, (at-p1 on).in_next)
+slot_at-d1-requires c =
+    let at_p1 = around _ c.requires (is_fresh _ _ _ c.stale-2.ensures c.if-stale-2.false) in
+    (at_p1.some, at_p1.in_next)
 
 pub returns-then-d0-eq0 : goal.returns-then-d0-eq0
 unfolding exchange_next
@@ -75,16 +44,18 @@ returns-then-d1-eq0 c =
     search reads depth 20
 
 pub set_two-requires : goal.set_two-requires
-unfolding start
-set_two-requires c = ((at-p0 on).some, (at-p0 on).in_next, (at-p1 on).some, (at-p1 on).in_next)
+set_two-requires c =
+    let at_p0 = around _ c.requires (is_fresh _ _ _ c.stale.ensures c.if-stale.false) in
+    let at_p1 = around _ c.requires (is_fresh _ _ _ c.stale-2.ensures c.if-stale-2.false) in
+    (at_p0.some, at_p0.in_next, at_p1.some, at_p1.in_next)
 
 pub set_two-requires-2 : goal.set_two-requires-2
-unfolding start
 set_two-requires-2 c =
-    let d0 = next_stands (at-p0 on) c.slot_at-d0.ensures c.if-d0-eq0.false in
-    let d1 = next_stands (at-p1 on) c.slot_at-d1.ensures c.if-d1-eq0.false in
-    search
+    let at_p0 = around _ c.requires (is_fresh _ _ _ c.stale.ensures c.if-stale.false) in
+    let at_p1 = around _ c.requires (is_fresh _ _ _ c.stale-2.ensures c.if-stale-2.false) in
+    let d0 = next_stands at_p0 c.slot_at-d0.ensures c.if-d0-eq0.false in
+    let d1 = next_stands at_p1 c.slot_at-d1.ensures c.if-d1-eq0.false in
+    search rules
 
 pub returns : goal.returns
-unfolding start
-returns c = exchanged _ _ _ (fresh0 on) (fresh1 on) c.slot_at-d0.ensures c.slot_at-d1.ensures c.if-d0-eq0.false c.if-d1-eq0.false c.set_two-2.ensures c.set_two.ensures
+returns c = exchanged _ _ _ (is_fresh _ _ _ c.stale.ensures c.if-stale.false) (is_fresh _ _ _ c.stale-2.ensures c.if-stale-2.false) c.slot_at-d0.ensures c.slot_at-d1.ensures c.if-d0-eq0.false c.if-d1-eq0.false c.set_two-2.ensures c.set_two.ensures
