@@ -1,4 +1,6 @@
 // The layout of canonical compression: chain after chain, each link brought to the slot after those that are laid out.
+#![tactic(auto)]
+
 ghost use Rattle.std.specs.Prelude.{◌≡◌, ℕ, ◌+◌, ◌≤◌, ◌<◌, length};
 ghost use Rattle.definitions.specs.Arena.{Arena, capacity_limit, stack_length};
 ghost use Rattle.definitions.specs.Compress.{Laying, lowest_from, start_of, lay_chain, laid_out};

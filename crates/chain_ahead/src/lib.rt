@@ -1,4 +1,6 @@
 // What is ahead of a walk, counted before anything is written (chain/chain_iterators.rs).
+#![tactic(auto)]
+
 ghost use Rattle.std.specs.Prelude.{◌≡◌, ltb, length};
 ghost use Rattle.definitions.specs.Arena.{capacity_limit};
 ghost use Rattle.definitions.specs.Lent.{lent, at_entry};

@@ -1,4 +1,6 @@
 // The removal of a link (`remove` of chain/impl_chain_arena_trait.rs).
+#![tactic(auto)]
+
 ghost use Rattle.std.specs.Prelude.{◌≡◌, []};
 ghost use Rattle.definitions.specs.Arena.{capacity_limit, largest_generation, arena};
 ghost use Rattle.definitions.specs.Check.{WellFormed};

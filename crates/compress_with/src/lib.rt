@@ -1,5 +1,7 @@
 // Order-preserving compression (`compress_with` of chain/impl_chain_arena_trait.rs) in the lent columns, with no memory beyond them: every link gets
 // the new generation in the end, so meanwhile the generation column holds each link's new slot.
+#![tactic(auto)]
+
 ghost use Rattle.std.specs.Prelude.{◌≡◌, List, [], ℕ, ◌*◌, ◌<◌, length, get_or};
 ghost use Rattle.definitions.specs.Columns.{written};
 ghost use Rattle.definitions.specs.Arena.{arena, capacity_limit, largest_generation, link_slots};

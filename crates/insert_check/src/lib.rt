@@ -1,4 +1,6 @@
 // The place that a kind of insertion names (`check_link_insert_kind` of chain/impl_chain_arena_trait.rs), in an arena that passed the check.
+#![tactic(auto)]
+
 ghost use Rattle.std.specs.Prelude.{◌≡◌};
 ghost use Rattle.definitions.specs.Arena.{capacity_limit};
 ghost use Rattle.definitions.specs.Lent.{lent, at_entry};

@@ -1,1 +1,3 @@
 // Theorems over the definitions: what every call keeps. There is no code here.
+
+#![tactic(auto)]

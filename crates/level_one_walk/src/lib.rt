@@ -1,4 +1,6 @@
 // Level One, the walk along a chain, as a host calls it.
+#![tactic(auto)]
+
 ghost use Rattle.std.specs.Prelude.{[], ◌∷◌};
 ghost use Rattle.definitions.specs.Lent.{at_entry, at_exit};
 ghost use Rattle.definitions.specs.Read.{pointer};

@@ -1,4 +1,6 @@
 // Level Two, the edits of interlinks, as a host calls them.
+#![tactic(auto)]
+
 ghost use Rattle.definitions.specs.Arena.{arena};
 ghost use Rattle.std.specs.Prelude.{[]};
 ghost use Rattle.definitions.specs.Read.{pointer};

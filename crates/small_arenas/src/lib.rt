@@ -1,4 +1,6 @@
 // All small arenas, in order, as a host calls for them: an archive of its own.
+#![tactic(auto)]
+
 ghost use Rattle.std.specs.Prelude.{[], ◌∷◌, ◌≡◌};
 ghost use Rattle.definitions.specs.Arena.{Arena, capacity_limit, arena};
 ghost use Rattle.definitions.specs.Reply.{reply};

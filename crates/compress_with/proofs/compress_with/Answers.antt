@@ -1,0 +1,86 @@
+-- `compress_with::compress_with` meets its contract: the generation is renewed, the columns are compressed in it, and the header is set. The check
+-- gives every bound (Passed). Assumes nothing.
+use mathlib.Core.Path.{◌≡◌, refl, ◌∙◌}
+use native.Mathlib.Omega.{arith}
+use lib.Dec.{lit<}
+use lib.ListN.{length, length-set}
+use Rattle.definitions.specs.Arena.{Arena, capacity_limit, header_words}
+use Rattle.definitions.specs.Lent.{lent}
+use Rattle.definitions.proofs.Shaped.{Shaped, shaped}
+use Rattle.compress_with.proofs.Passed.{compressible, refused, renewed_word, compressed}
+use Rattle.compress_with.proofs.compress_with.Goals as goal
+
+-- TODO over a place
+-- the arena that is lent, and its shape, as it passed the check
+abbrev entry : tie.Start → Arena
+entry start = lent start.args.prev start.args.next start.args.generation start.args.payload start.args.header
+
+-- TODO over a place
+shape : (start : tie.Start) → Shaped capacity_limit (entry start)
+shape start = shaped capacity_limit (entry start) start.requires
+
+-- TODO over a place
+-- and its header, once renewed, still has its words
+header-long : (c : tie.After-renew-generation) → length c.renew-generation.new.0 ≡ header_words
+header-long c = let start : tie.Start = search in c.renew-generation.auto.0 ∙ (shape start).header
+
+pub bounds-header-0 : goal.bounds-header-0
+bounds-header-0 c = omega (arith, shape search)
+
+pub overflow_cast-n : goal.overflow_cast-n
+overflow_cast-n c = omega (arith, shape search)
+
+pub bounds-header-1 : goal.bounds-header-1
+bounds-header-1 c = omega (arith, shape search)
+
+pub overflow_cast-links : goal.overflow_cast-links
+overflow_cast-links c = omega (arith, shape search)
+
+pub overflow_mul-links : goal.overflow_mul-links
+overflow_mul-links c = omega (arith, shape search)
+
+pub returns-then-report-links : goal.returns-then-report-links
+returns-then-report-links c = refused (entry start) _ _ c.args.report.now c.if-report-links.true
+
+pub renew_generation-renewed-requires : goal.renew_generation-renewed-requires
+renew_generation-renewed-requires c = (shape (search)).header
+
+pub bounds-header-3 : goal.bounds-header-3
+bounds-header-3 c = rw (header-long search) (lit< tt)
+
+pub overflow_cast-links-2 : goal.overflow_cast-links-2
+overflow_cast-links-2 c = omega (arith, shape search)
+
+pub compress_columns-requires : goal.compress_columns-requires
+compress_columns-requires c = compressible (entry start) c.requires c.if-report-links.false
+
+pub bounds-header-2 : goal.bounds-header-2
+bounds-header-2 c = rw (header-long search) (lit< tt)
+
+pub bounds-header-0-2 : goal.bounds-header-0-2
+bounds-header-0-2 c = simp (length-set, header-long search) (lit< tt)
+
+pub shape_of-prev : goal.shape_of-prev
+shape_of-prev c = c.compress_columns.auto.prev
+
+pub shape_of-next : goal.shape_of-next
+shape_of-next c = c.compress_columns.auto.next
+
+pub shape_of-generation : goal.shape_of-generation
+shape_of-generation c = c.compress_columns.auto.generation
+
+pub shape_of-payload : goal.shape_of-payload
+shape_of-payload c = c.compress_columns.auto.payload
+
+pub shape_of-header : goal.shape_of-header
+shape_of-header c = simp length-set c.renew_generation-renewed.auto.header
+
+pub shape_of-report : goal.shape_of-report
+shape_of-report c = c.compress_columns.auto.report
+
+pub returns : goal.returns
+returns c =
+    let renews = c.renew_generation-renewed.ensures _ _ _ _ in
+    let columns = c.compress_columns.ensures in
+    let header = c.args.header.now in
+    compressed (entry start) c.args.report.now c.if-report-links.false (renewed_word (shape start).header renews) renews (columns.0 header refl) (columns.1 header)
