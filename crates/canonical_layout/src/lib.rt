@@ -51,7 +51,7 @@ pub fn lay_chain(
     first: Slot,
     start: Slot,
 ) -> usize
-    requires first_value { first.0 ≡ laid + 1 }
+    requires next_place { first.0 ≡ laid + 1 }
     requires in_chain { (a : Arena) × (l : Laying) × InChain a l l.i start.0 (lent prev.old next.old payload.old where_from.old) laid }
     ensures { (a : Arena) (l : Laying) → InChain a l l.i start.0 (lent prev.old next.old payload.old where_from.old) laid
         → ChainLaid a l (lay_chain (stack_length l.slots) l.i start.0 l) laid

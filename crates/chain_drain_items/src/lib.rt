@@ -44,7 +44,7 @@ pub fn list_slots(
     report: &mut [u32],
 ) -> u32
     requires well_formed { WellFormed capacity_limit (lent prev next generation payload header) }
-    requires walk_in_bounds { 5 * length (slots_ahead (lent prev next generation payload header) (walk_of walk)) ≤ length report.old }
+    requires room { 5 * length (slots_ahead (lent prev next generation payload header) (walk_of walk)) ≤ length report.old }
     requires on_chain { OnChain (lent prev next generation payload header) walk.ptr }
     ensures { Listed (slots_ahead (at_entry prev next generation payload header) (walk_of walk))
         report.old report.new result }
@@ -72,7 +72,7 @@ pub fn report_link(
     i: usize,
 )
     requires stands { Stands prev.now next.now generation.now payload.now s.0 }
-    requires i_in_bounds { i + 5 ≤ length report.old }
+    requires room { i + 5 ≤ length report.old }
     ensures { report.new
         ≡ overwritten i (item_words (arena prev.now next.now generation.now payload.now []) s.0) report.old }
 {
@@ -95,7 +95,7 @@ pub fn drain_item(
     i: usize,
 ) -> bool
     requires removable { Removable (arena prev.old next.old generation.old payload.old header.old) (get_or report.old i 0) }
-    requires i_in_bounds { i + 5 ≤ length report.old }
+    requires room { i + 5 ≤ length report.old }
     ensures { ItemDrained largest_generation
         (arena prev.old next.old generation.old payload.old header.old) (get_or report.old i 0) i report.old
         (arena prev.new next.new generation.new payload.new header.new) report.new result }
@@ -127,7 +127,7 @@ pub fn drain_items(
     items: u32,
 ) -> u32
     requires drainable { Drainable capacity_limit (arena prev.old next.old generation.old payload.old header.old) (item_slots items report.old) }
-    requires in_bounds { 5 * items ≤ length report.old }
+    requires room { 5 * items ≤ length report.old }
     ensures { ItemsDrained largest_generation
         (arena prev.old next.old generation.old payload.old header.old) (item_slots items report.old) report.old
         (arena prev.new next.new generation.new payload.new header.new) report.new result }

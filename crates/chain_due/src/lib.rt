@@ -31,7 +31,7 @@ pub enum Due {
 
 // Whether the link at slot s is due.
 pub fn is_due(payload: &[u32], window: Window, s: Slot) -> bool
-    requires s_nonzero { (0 < s.0) × (s.0 ≤ length payload.now) }
+    requires in_column { (0 < s.0) × (s.0 ≤ length payload.now) }
     requires window { IsWindow window }
     ensures { result ≡ is_due payload.now window s.0 }
 {
@@ -79,7 +79,7 @@ pub fn list_due(
 ) -> u32
     requires well_formed { WellFormed capacity_limit (lent prev next generation payload header) }
     requires window { IsWindow window }
-    requires walk_in_bounds { length (slots_ahead (lent prev next generation payload header) (walk_of walk)) ≤ length report.old }
+    requires room { length (slots_ahead (lent prev next generation payload header) (walk_of walk)) ≤ length report.old }
     requires on_chain { OnChain (lent prev next generation payload header) walk.ptr }
     ensures { (result ≡ length (due_ahead (at_entry prev next generation payload header) window (walk_of walk)))
         × (report.new ≡ written (due_ahead (at_entry prev next generation payload header) window (walk_of walk)) report.old) }

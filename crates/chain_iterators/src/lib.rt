@@ -117,7 +117,7 @@ impl ChainPtrAdvancer {
         header: &[u32],
     ) -> ChainPtrAdvancer
         requires shaped { Shaped capacity_limit (lent prev next generation payload header) }
-        requires ptr_value { (is_link (lent prev next generation payload header) self.ptr ≡ true) × (0 < self.max_advances) }
+        requires at_link { (is_link (lent prev next generation payload header) self.ptr ≡ true) × (0 < self.max_advances) }
         ensures { walk_of result ≡ onward (at_entry prev next generation payload header) (walk_of self) }
     {
         let here = Slot(self.ptr);

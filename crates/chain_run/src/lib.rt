@@ -18,7 +18,7 @@ pub fn apply_all(
     answers: &mut [u32],
 )
     requires well_formed { WellFormed capacity_limit (arena prev.old next.old generation.old payload.old header.old) }
-    requires command_words_in_bounds { length commands.now / command_words ≤ length answers.old }
+    requires room { length commands.now / command_words ≤ length answers.old }
     ensures { AllApplied largest_generation
         (arena prev.old next.old generation.old payload.old header.old)
         commands.now answers.old

@@ -81,8 +81,8 @@ pub fn move_link(
     s: usize,
     k: usize,
 )
-    requires k_lt_s { (k < s) × (s ≤ length prev.old) × (s ≤ length next.old) × (s ≤ length payload.old) }
-    requires s_in_bounds { (at prev.old s ≤ length numbers.now) × (at next.old s ≤ length numbers.now) }
+    requires before { (k < s) × (s ≤ length prev.old) × (s ≤ length next.old) × (s ≤ length payload.old) }
+    requires numbered { (at prev.old s ≤ length numbers.now) × (at next.old s ≤ length numbers.now) }
     ensures { (prev.new ≡ set prev.old k (new_name numbers.now prev.old s))
         × (next.new ≡ set next.old k (new_name numbers.now next.old s))
         × (payload.new ≡ set payload.old k (at payload.old s)) }

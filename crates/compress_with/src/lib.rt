@@ -48,9 +48,9 @@ pub fn compress_columns(
     new: u32,
 )
     requires { Compressible prev.old next.old generation.old payload.old n links (length report.old) }
-    ensures by_index { (h : List ℕ) → get_or h 0 0 ≡ n → arena prev.new next.new generation.new payload.new (compressed_header links new h)
+    ensures moved { (h : List ℕ) → get_or h 0 0 ≡ n → arena prev.new next.new generation.new payload.new (compressed_header links new h)
         ≡ relocate (link_slots generation.old n) new (arena prev.old next.old generation.old payload.old h) }
-    ensures by_index_2 { (h : List ℕ) → report.new
+    ensures reported { (h : List ℕ) → report.new
         ≡ written (moves_of (arena prev.old next.old generation.old payload.old h) new 1 (link_slots generation.old n)) report.old }
 {
     number_links(&mut *generation, &mut *report, n, links, new);

@@ -110,7 +110,7 @@ pub fn at_interlink(next: &[u32], there: bool, s: Slot, t: Slot) -> Place
 // Between the links s and t, if they are there and s has no next and t no prev.
 pub fn bridge(prev: &[u32], next: &[u32], there: bool, s: Slot, t: Slot) -> Place
     requires standing { Standing there s.0 next.now }
-    requires standing_2 { Standing there t.0 prev.now }
+    requires end_stands { Standing there t.0 prev.now }
     ensures { placed result ≡ place_if (there && (eqb (at next.now s.0) 0 && eqb (at prev.now t.0) 0)) s.0 t.0 }
 {
     if lacks(next, there, s) {

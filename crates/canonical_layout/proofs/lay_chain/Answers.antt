@@ -8,7 +8,7 @@ use Rattle.canonical_layout.proofs.ChainInPlace.{Going, going_starts, going_chai
 use Rattle.canonical_layout.proofs.lay_chain.Goals as goal
 
 pub loop-t-init : goal.loop-t-init
-loop-t-init c = (omega arith, going_starts _ _ _, c.requires.first_value)
+loop-t-init c = (omega arith, going_starts _ _ _, c.requires.next_place)
 
 pub lay_link-t-requires : goal.lay_link-t-requires
 lay_link-t-requires c = going_chain c.loop-t.invariant.1 c.requires.in_chain

@@ -18,7 +18,7 @@ move_link-requires c =
     let can = c.requires in
     let inv = c.loop-k.invariant in
     let left = c.loop-k-test.true in
-    let slot = moving_slot can inv left in record { k_lt_s = omega arith; s_in_bounds = (moving_prev can inv left, moving_next can inv left) }
+    let slot = moving_slot can inv left in record { before = omega arith; numbered = (moving_prev can inv left, moving_next can inv left) }
 
 pub loop-k-preserved : goal.loop-k-preserved
 loop-k-preserved c =

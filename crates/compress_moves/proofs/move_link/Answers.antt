@@ -7,10 +7,10 @@ use Rattle.definitions.proofs.Columns.{at_place}
 use Rattle.compress_moves.proofs.move_link.Goals as goal
 
 pub new_slot-before-requires : goal.new_slot-before-requires
-new_slot-before-requires c = rw (at_place c.args.prev.now c.args.s (omega arith)) c.requires.s_in_bounds.0
+new_slot-before-requires c = rw (at_place c.args.prev.now c.args.s (omega arith)) c.requires.numbered.0
 
 pub new_slot-after-requires : goal.new_slot-after-requires
-new_slot-after-requires c = rw (at_place c.args.next.now c.args.s (omega arith)) c.requires.s_in_bounds.1
+new_slot-after-requires c = rw (at_place c.args.next.now c.args.s (omega arith)) c.requires.numbered.1
 
 pub returns : goal.returns
 returns c =

@@ -32,4 +32,4 @@ returns c =
     let named = (says [] [] [] []).named in
     let moves = rw named at c.move_down.ensures in
     let fills = rw named at c.fill_generation.ensures in
-    let pops = c.pop_slots.ensures in record { by_index = λ h e. rw (pops.0, pops.1, pops.2, pops.3) (relocated c.requires _ moves.0 moves.1 moves.2 fills h e); by_index_2 = (λ h. (says _ _ _ h).reported, ) }
+    let pops = c.pop_slots.ensures in record { moved = λ h e. rw (pops.0, pops.1, pops.2, pops.3) (relocated c.requires _ moves.0 moves.1 moves.2 fills h e); reported = (λ h. (says _ _ _ h).reported, ) }

@@ -70,7 +70,7 @@ at_interlink-requires-in-AtInterlinkInx c =
 
 pub bridge-requires : goal.bridge-requires
 unfolding slot_of
-bridge-requires c = let start = begun-bridge first in record { standing = first_in_next _ _ start.pre _ _ _ _ _ c.contains-in-Bridge.ensures c.contains-in-Bridge-2.ensures c.both-there-in-Bridge.ensures; standing_2 = second_in_prev _ _ start.pre _ _ _ _ _ c.contains-in-Bridge.ensures c.contains-in-Bridge-2.ensures c.both-there-in-Bridge.ensures }
+bridge-requires c = let start = begun-bridge first in record { standing = first_in_next _ _ start.pre _ _ _ _ _ c.contains-in-Bridge.ensures c.contains-in-Bridge-2.ensures c.both-there-in-Bridge.ensures; end_stands = second_in_prev _ _ start.pre _ _ _ _ _ c.contains-in-Bridge.ensures c.contains-in-Bridge-2.ensures c.both-there-in-Bridge.ensures }
 
 pub bridge-requires-in-BridgeInx : goal.bridge-requires-in-BridgeInx
 unfolding slot_of

@@ -18,7 +18,7 @@ pub word_at-requires : goal.word_at-requires
 word_at-requires c = omega (arith, link_slot _ _ _ (said_true _ _ c.is_link.ensures c.if-not-is_link.false))
 
 pub onward-requires : goal.onward-requires
-onward-requires c = record { shaped = c.requires; ptr_value = (said_true _ _ c.is_link.ensures c.if-not-is_link.false, pos_of_ne-zero c.if-self-eq0.false) }
+onward-requires c = record { shaped = c.requires; at_link = (said_true _ _ c.is_link.ensures c.if-not-is_link.false, pos_of_ne-zero c.if-self-eq0.false) }
 
 pub returns : goal.returns
 returns c = step_answers _ _ _ _ c.if-self-eq0.false (said_true _ _ c.is_link.ensures c.if-not-is_link.false) c.word_at.ensures c.onward.ensures

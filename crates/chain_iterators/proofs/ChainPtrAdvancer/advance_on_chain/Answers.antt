@@ -18,7 +18,7 @@ pub word_at-requires : goal.word_at-requires
 word_at-requires c = omega (arith, link_slot _ _ _ (on_chain_link _ _ c.requires.on_chain c.if-here-eq0.false))
 
 pub onward-requires : goal.onward-requires
-onward-requires c = record { shaped = c.requires.shaped; ptr_value = (on_chain_link _ _ c.requires.on_chain c.if-here-eq0.false, pos_of_ne-zero c.if-left-eq0.false) }
+onward-requires c = record { shaped = c.requires.shaped; at_link = (on_chain_link _ _ c.requires.on_chain c.if-here-eq0.false, pos_of_ne-zero c.if-left-eq0.false) }
 
 pub returns : goal.returns
 returns c = step_answers _ _ _ _ c.if-left-eq0.false (on_chain_link _ _ c.requires.on_chain c.if-here-eq0.false) c.word_at.ensures c.onward.ensures
