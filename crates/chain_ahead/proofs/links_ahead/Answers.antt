@@ -10,13 +10,13 @@ pub loop-step-init : goal.loop-step-init
 loop-step-init c = (counting_starts _ _, c.requires.on_chain)
 
 pub advance_on_chain-step-requires : goal.advance_on_chain-step-requires
-advance_on_chain-step-requires c = (shape_if_well_formed _ _ c.requires.well_formed, c.loop-step.invariant.1)
+advance_on_chain-step-requires c = record { shaped = shape_if_well_formed _ _ c.requires.well_formed; on_chain = c.loop-step.invariant.1 }
 
 pub returns-then-step-eq0 : goal.returns-then-step-eq0
 returns-then-step-eq0 c = counting_ends c.loop-step.invariant.0 c.advance_on_chain-step.ensures c.if-step-eq0.true
 
 pub overflow_add-links : goal.overflow_add-links
-overflow_add-links c = omega (arith, counting_small c.loop-step.invariant.0 c.advance_on_chain-step.ensures c.if-step-eq0.false, c.ranges)
+overflow_add-links c = omega (arith, counting_small c.loop-step.invariant.0 c.advance_on_chain-step.ensures c.if-step-eq0.false)
 
 pub loop-step-smaller : goal.loop-step-smaller
 loop-step-smaller c = ahead_less _ _ _ c.advance_on_chain-step.ensures c.if-step-eq0.false

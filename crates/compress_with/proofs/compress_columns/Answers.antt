@@ -3,17 +3,11 @@
 use Prim.Native.Nat.{◌≤◌}
 use mathlib.Core.List.{[]}
 use native.Mathlib.Omega.{arith}
-use lib.ListN.{length}
 use borrow.Author.Rules.{rules}
 use Rattle.definitions.specs.Arena.{link_slots}
 use Rattle.definitions.proofs.Slots.{links_and_free}
 use Rattle.compress_with.proofs.Relocated.{movable, relocated}
 use Rattle.compress_with.proofs.compress_columns.Goals as goal
-
--- TODO over a place
--- no more links than slots
-few-links : (start : tie.Start) → length (link_slots start.args.generation.now start.args.n) ≤ start.args.n
-few-links start = omega (arith, links_and_free start.args.generation.now start.args.n)
 
 pub move_down-requires : goal.move_down-requires
 move_down-requires c =
@@ -21,10 +15,10 @@ move_down-requires c =
     rw says.named (movable c.requires _ _ _ says.reported (omega (arith, c.number_links.auto)))
 
 pub fill_generation-requires : goal.fill_generation-requires
-fill_generation-requires c = omega (arith, c.requires, c.number_links.auto, few-links start)
+fill_generation-requires c = omega (arith, c.requires, c.number_links.auto, links_and_free c.args.generation.now c.args.n)
 
 pub pop_slots-requires : goal.pop_slots-requires
-pop_slots-requires c = omega (arith, c.requires, c.number_links.auto, c.move_down.auto, c.fill_generation.auto, few-links start)
+pop_slots-requires c = omega (arith, c.requires, c.number_links.auto, c.move_down.auto, c.fill_generation.auto, links_and_free c.args.generation.now c.args.n)
 
 pub returns : goal.returns
 returns c =
@@ -32,4 +26,4 @@ returns c =
     let named = (says [] [] [] []).named in
     let moves = rw named at c.move_down.ensures in
     let fills = rw named at c.fill_generation.ensures in
-    let pops = c.pop_slots.ensures in record { moved = λ h e. rw (pops.0, pops.1, pops.2, pops.3) (relocated c.requires _ moves.0 moves.1 moves.2 fills h e); reported = (λ h. (says _ _ _ h).reported, ) }
+    let pops = c.pop_slots.ensures in record { moved = λ h e. rw (pops.0, pops.1, pops.2, pops.3) (relocated c.requires _ moves.0 moves.1 moves.2 fills h e); reported = (λ h. (says _ _ _ h).reported) }

@@ -10,55 +10,41 @@ use Rattle.definitions.proofs.Shaped.{Shaped, shaped}
 use Rattle.compress_with.proofs.Passed.{compressible, refused, renewed_word, compressed}
 use Rattle.compress_with.proofs.compress_with.Goals as goal
 
--- TODO over a place
--- the arena that is lent, and its shape, as it passed the check
-abbrev entry : tie.Start → Arena
-entry start = lent start.args.prev start.args.next start.args.generation start.args.payload start.args.header
-
--- TODO over a place
-shape : (start : tie.Start) → Shaped capacity_limit (entry start)
-shape start = shaped capacity_limit (entry start) start.requires
-
--- TODO over a place
--- and its header, once renewed, still has its words
-header-long : (c : tie.After-renew-generation) → length c.renew-generation.new.0 ≡ header_words
-header-long c = let start : tie.Start = search in c.renew-generation.auto.0 ∙ (shape start).header
-
 pub bounds-header-0 : goal.bounds-header-0
-bounds-header-0 c = omega (arith, shape search)
+bounds-header-0 c = omega (arith, shaped _ _ c.requires)
 
 pub overflow_cast-n : goal.overflow_cast-n
-overflow_cast-n c = omega (arith, shape search)
+overflow_cast-n c = omega (arith, shaped _ _ c.requires)
 
 pub bounds-header-1 : goal.bounds-header-1
-bounds-header-1 c = omega (arith, shape search)
+bounds-header-1 c = omega (arith, shaped _ _ c.requires)
 
 pub overflow_cast-links : goal.overflow_cast-links
-overflow_cast-links c = omega (arith, shape search)
+overflow_cast-links c = omega (arith, shaped _ _ c.requires)
 
 pub overflow_mul-links : goal.overflow_mul-links
-overflow_mul-links c = omega (arith, shape search)
+overflow_mul-links c = omega (arith, shaped _ _ c.requires)
 
 pub returns-then-report-links : goal.returns-then-report-links
-returns-then-report-links c = refused (entry start) _ _ c.args.report.now c.if-report-links.true
+returns-then-report-links c = refused _ _ _ c.args.report.now c.if-report-links.true
 
 pub renew_generation-renewed-requires : goal.renew_generation-renewed-requires
-renew_generation-renewed-requires c = (shape (search)).header
+renew_generation-renewed-requires c = (shaped _ _ c.requires).header
 
 pub bounds-header-3 : goal.bounds-header-3
-bounds-header-3 c = rw (header-long search) (lit< tt)
+bounds-header-3 c = rw (c.renew_generation-renewed.auto.header ∙ (shaped _ _ c.requires).header) (lit< tt)
 
 pub overflow_cast-links-2 : goal.overflow_cast-links-2
-overflow_cast-links-2 c = omega (arith, shape search)
+overflow_cast-links-2 c = omega (arith, shaped _ _ c.requires)
 
 pub compress_columns-requires : goal.compress_columns-requires
-compress_columns-requires c = compressible (entry start) c.requires c.if-report-links.false
+compress_columns-requires c = compressible _ c.requires c.if-report-links.false
 
 pub bounds-header-2 : goal.bounds-header-2
-bounds-header-2 c = rw (header-long search) (lit< tt)
+bounds-header-2 c = rw (c.renew_generation-renewed.auto.header ∙ (shaped _ _ c.requires).header) (lit< tt)
 
 pub bounds-header-0-2 : goal.bounds-header-0-2
-bounds-header-0-2 c = simp (length-set, header-long search) (lit< tt)
+bounds-header-0-2 c = simp (length-set, c.renew_generation-renewed.auto.header ∙ (shaped _ _ c.requires).header) (lit< tt)
 
 pub shape_of-prev : goal.shape_of-prev
 shape_of-prev c = c.compress_columns.auto.prev
@@ -83,4 +69,4 @@ returns c =
     let renews = c.renew_generation-renewed.ensures _ _ _ _ in
     let columns = c.compress_columns.ensures in
     let header = c.args.header.now in
-    compressed (entry start) c.args.report.now c.if-report-links.false (renewed_word (shape start).header renews) renews (columns.0 header refl) (columns.1 header)
+    compressed _ c.args.report.now c.if-report-links.false (renewed_word (shaped _ _ c.requires).header renews) renews (columns.moved header refl) (columns.reported header)

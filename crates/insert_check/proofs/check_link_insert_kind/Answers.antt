@@ -1,28 +1,10 @@
 -- `insert_check::check_link_insert_kind` meets its contract. Each kind finds the links that it names, by pointer or by slot, and what it asks of them; a link that is there stands
 -- in the columns. Assumes nothing.
--- ---- what each part asks of the links that were found
 use mathlib.Core.Path.{refl}
 use borrow.Author.Rules.{rules}
 use Rattle.definitions.specs.Insert.{slot_of, place_of}
 use Rattle.insert_check.proofs.Named.{in_prev, in_next, first_in_next, second_in_prev, at_end, at_start, behind, in_front, at_joint, bridged}
 use Rattle.insert_check.proofs.check_link_insert_kind.Goals as goal
-
--- TODO over a place
--- the start, from where the first of two links was found
-abbrev begun-interlink : tie.After-contains5 → tie.Start
-begun-interlink c = search
-
--- TODO over a place
-abbrev begun-interlink-inx : tie.After-contains-inx5 → tie.Start
-begun-interlink-inx c = search
-
--- TODO over a place
-abbrev begun-bridge : tie.After-contains7 → tie.Start
-begun-bridge c = search
-
--- TODO over a place
-abbrev begun-bridge-inx : tie.After-contains-inx7 → tie.Start
-begun-bridge-inx c = search
 
 pub lacks-requires : goal.lacks-requires
 unfolding slot_of
@@ -58,25 +40,19 @@ prev_to-requires-in-PrevToInx c = in_prev _ _ c.requires _ _ c.contains_inx-in-P
 
 pub at_interlink-requires : goal.at_interlink-requires
 unfolding slot_of
-at_interlink-requires c =
-    let start = begun-interlink first in
-    first_in_next _ _ start.pre _ _ _ _ _ c.contains-in-AtInterlink.ensures c.contains-in-AtInterlink-2.ensures c.both-there.ensures
+at_interlink-requires c = first_in_next _ _ c.requires _ _ _ _ _ c.contains-in-AtInterlink.ensures c.contains-in-AtInterlink-2.ensures c.both-there.ensures
 
 pub at_interlink-requires-in-AtInterlinkInx : goal.at_interlink-requires-in-AtInterlinkInx
 unfolding slot_of
-at_interlink-requires-in-AtInterlinkInx c =
-    let start = begun-interlink-inx first in
-    first_in_next _ _ start.pre _ _ _ _ _ c.contains_inx-in-AtInterlinkInx.ensures c.contains_inx-in-AtInterlinkInx-2.ensures c.both-there-in-AtInterlinkInx.ensures
+at_interlink-requires-in-AtInterlinkInx c = first_in_next _ _ c.requires _ _ _ _ _ c.contains_inx-in-AtInterlinkInx.ensures c.contains_inx-in-AtInterlinkInx-2.ensures c.both-there-in-AtInterlinkInx.ensures
 
 pub bridge-requires : goal.bridge-requires
 unfolding slot_of
-bridge-requires c = let start = begun-bridge first in record { standing = first_in_next _ _ start.pre _ _ _ _ _ c.contains-in-Bridge.ensures c.contains-in-Bridge-2.ensures c.both-there-in-Bridge.ensures; end_stands = second_in_prev _ _ start.pre _ _ _ _ _ c.contains-in-Bridge.ensures c.contains-in-Bridge-2.ensures c.both-there-in-Bridge.ensures }
+bridge-requires c = record { standing = first_in_next _ _ c.requires _ _ _ _ _ c.contains-in-Bridge.ensures c.contains-in-Bridge-2.ensures c.both-there-in-Bridge.ensures; end_stands = second_in_prev _ _ c.requires _ _ _ _ _ c.contains-in-Bridge.ensures c.contains-in-Bridge-2.ensures c.both-there-in-Bridge.ensures }
 
 pub bridge-requires-in-BridgeInx : goal.bridge-requires-in-BridgeInx
 unfolding slot_of
-bridge-requires-in-BridgeInx c =
-    let start = begun-bridge-inx first in
-    (first_in_next _ _ start.pre _ _ _ _ _ c.contains_inx-in-BridgeInx.ensures c.contains_inx-in-BridgeInx-2.ensures c.both-there-in-BridgeInx.ensures, second_in_prev _ _ start.pre _ _ _ _ _ c.contains_inx-in-BridgeInx.ensures c.contains_inx-in-BridgeInx-2.ensures c.both-there-in-BridgeInx.ensures)
+bridge-requires-in-BridgeInx c = record { standing = first_in_next _ _ c.requires _ _ _ _ _ c.contains_inx-in-BridgeInx.ensures c.contains_inx-in-BridgeInx-2.ensures c.both-there-in-BridgeInx.ensures; end_stands = second_in_prev _ _ c.requires _ _ _ _ _ c.contains_inx-in-BridgeInx.ensures c.contains_inx-in-BridgeInx-2.ensures c.both-there-in-BridgeInx.ensures }
 
 pub returns-in-Disconnected : goal.returns-in-Disconnected
 unfolding place_of
