@@ -1,4 +1,6 @@
 // The items of a drain (`ChainDrain` of chain/chain_iterators.rs): the slots of the chain are listed in the report, and then each link is reported and removed.
+#![tactic(auto)]
+
 ghost use Rattle.std.specs.Prelude.{◌≡◌, cond, [], ◌+◌, ◌*◌, ◌≤◌, eqb, ltb, length, get_or};
 ghost use Rattle.definitions.specs.Arena.{arena, capacity_limit, largest_generation};
 ghost use Rattle.definitions.specs.Lent.{lent, at_entry};

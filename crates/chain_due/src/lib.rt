@@ -1,4 +1,6 @@
 // What of a chain is due in a window of the frame, in an arena that passed the check (REFERENCE, Frame clock).
+#![tactic(auto)]
+
 ghost use Rattle.std.specs.Prelude.{◌≡◌, [], ◌≤◌, ◌<◌, length};
 ghost use Rattle.definitions.specs.Arena.{capacity_limit};
 ghost use Rattle.definitions.specs.Clock.{due_count, due_events};

@@ -1,4 +1,6 @@
 // Insertion of a link (`insert_within_capacity` of chain/chain_traits.rs) into an arena that passed the check: one for all kinds.
+#![tactic(auto)]
+
 ghost use Rattle.std.specs.Prelude.{◌≡◌, List, [], ℕ};
 ghost use Rattle.definitions.specs.Arena.{Arena, capacity_limit, arena};
 ghost use Rattle.definitions.specs.Check.{WellFormed};

@@ -1,4 +1,6 @@
 // Canonical compression (`compress_canonical` of chain/impl_chain_arena_trait.rs) in the lent columns, with no memory beyond them.
+#![tactic(auto)]
+
 ghost use Rattle.std.specs.Prelude.{◌≡◌, cond, [], ◌+◌, ◌≤◌, ◌<◌, eqb, length};
 ghost use Rattle.definitions.specs.Columns.{at};
 ghost use Rattle.definitions.specs.Arena.{capacity_limit, largest_generation, arena};

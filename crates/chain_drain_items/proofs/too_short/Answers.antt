@@ -7,8 +7,7 @@ use lib.Dec.{ltb}
 use borrow.Author.Rules.{rules}
 use borrow.Author.Tests.{lt-ltb, le-ltb, ltb-true, ltb-false}
 use Rattle.definitions.proofs.Tests.{by_test}
-use Rattle.chain_drain_items.proofs.too_short.Statement.{statement}
-use Rattle.chain_drain_items.proofs.too_short.Tie as tie
+use Rattle.chain_drain_items.proofs.too_short.Goals as goal
 
 fifth-less : (room links : ℕ) → ltb (room / 5) links ≡ ltb room (5 * links)
 fifth-less room links =
@@ -16,8 +15,5 @@ fifth-less room links =
     (λ e. e ∙ sym (lt-ltb room (5 * links) (omega (arith, ltb-true))))
     (λ e. e ∙ sym (le-ltb room (5 * links) (omega (arith, ltb-false))))
 
-returns : tie.Need-returns
-returns c = let start : tie.Start = search in c.too_few.ensures ∙ fifth-less start.args.room _
-
-pub too-short-spec : {M : Type 1} → statement M
-too-short-spec = tie.close (tie.spec (λ c κs. search rules) returns)
+pub returns : goal.returns
+returns c = c.too_few.ensures ∙ fifth-less c.args.room _
