@@ -4,7 +4,6 @@
 ghost use Rattle.std.specs.Prelude.{◌≡◌, cond, [], ◌+◌, ◌≤◌, ◌<◌, eqb, length};
 ghost use Rattle.definitions.specs.Columns.{at};
 ghost use Rattle.definitions.specs.Arena.{capacity_limit, largest_generation, arena};
-ghost use Rattle.definitions.specs.Lent.{lent};
 ghost use Rattle.definitions.specs.Check.{verdict};
 ghost use Rattle.definitions.specs.Reply.{reply};
 ghost use Rattle.definitions.specs.Compress.{compress_canonical};

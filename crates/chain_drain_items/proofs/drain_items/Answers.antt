@@ -21,7 +21,7 @@ drain_item-overflow-requires c =
     let next = c.loop-item-test.true in record { removable = removable _ _ inv.rest.arena (next_link inv next); room = next_room inv next }
 
 pub overflow_add-item : goal.overflow_add-item
-overflow_add-item c = omega (arith, c.loop-item-test.true, c.fits)
+overflow_add-item c = omega (arith, c.loop-item-test.true)
 
 pub loop-item-smaller : goal.loop-item-smaller
 loop-item-smaller c = omega (arith, c.loop-item-test.true)

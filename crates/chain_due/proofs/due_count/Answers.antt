@@ -1,55 +1,25 @@
 -- `chain_due::due_count` meets its contract: first the pointer is tried, then the window. Assumes nothing.
 use borrow.Author.Rules.{rules}
-use Rattle.definitions.specs.Arena.{Arena}
-use Rattle.definitions.specs.Lent.{lent}
+use Rattle.definitions.specs.Arena.{arena}
 use Rattle.definitions.proofs.Tests.{said_true, said_false}
 use Rattle.chain_ahead.proofs.Started.{StartedAt, started, started_on_chain}
 use Rattle.well_formed.proofs.WellFormed.{shape_if_well_formed}
 use Rattle.chain_traits.specs.Read.{pointer_of}
 use Rattle.chain_due.specs.Due.{IsWindow}
-use Rattle.chain_due.proofs.Answers.{count_stale, count_no_window, count_done}
+use Rattle.chain_due.proofs.Answers.{count_stale, count_no_window, count_done_lem}
 use Rattle.chain_due.proofs.due_count.Goals as goal
-
--- TODO
--- the walk that was started
--- module _ (arm : tie.After-walk) where
---   start : tie.Start
---   start = search
-
--- TODO
---   abbrev was : Arena
---   was = let s = start.args in lent s.prev s.next s.generation s.payload s.header
-
--- TODO
---   walk : StartedAt was (pointer_of start.args.p) arm.walk.given.0.0
---   unfolding start
---   walk = let told : tie.After-advancer-chain = search in started _ _ _ (rw arm.walk.given.1 at told.advancer-chain.ensures)
-
--- TODO
--- the window is one
--- module _ (on : tie.Else1) where
---   begun : tie.Start
---   begun = search
-
--- TODO
---   ends : IsWindow begun.args.window
---   unfolding begun
---   ends = let asked : tie.After-is-window = search in came_true _ _ asked.is-window.ensures on.if1.left
 
 pub advancer_chain-requires : goal.advancer_chain-requires
 advancer_chain-requires c = shape_if_well_formed _ _ c.requires
 
 pub returns-in_default : goal.returns-in_default
-returns-in_default c = count_stale _ _ (rw c.in_default.is at c.advancer_chain.ensures) _
+returns-in_default c = count_stale _ _ c.in_default.ensures _
 
 pub returns-then-not-is_window : goal.returns-then-not-is_window
-unfolding start
-returns-then-not-is_window c = count_no_window (walk arm) _ (said_false _ _ c.is_window.ensures c.if-not-is_window.true) _
+returns-then-not-is_window c = count_no_window (started (arena c.args.prev.now c.args.next.now c.args.generation.now c.args.payload.now c.args.header.now) (pointer_of c.args.p) c.in-At.walk c.in-At.ensures) _ (said_false _ _ c.is_window.ensures c.if-not-is_window.true) _
 
 pub due_ahead-requires : goal.due_ahead-requires
-unfolding begun start
-due_ahead-requires c = record { well_formed = (begun on).pre; window = ends on; on_chain = started_on_chain (walk arm) }
+due_ahead-requires c = record { well_formed = c.requires; window = (said_true _ _ c.is_window.ensures c.if-not-is_window.false); on_chain = started_on_chain (started (arena c.args.prev.now c.args.next.now c.args.generation.now c.args.payload.now c.args.header.now) (pointer_of c.args.p) c.in-At.walk c.in-At.ensures) }
 
 pub returns : goal.returns
-unfolding start begun
-returns c = count_done (walk arm) _ (ends on) _ c.due_ahead.ensures
+returns c = count_done_lem (started (arena c.args.prev.now c.args.next.now c.args.generation.now c.args.payload.now c.args.header.now) (pointer_of c.args.p) c.in-At.walk c.in-At.ensures) _ (said_true _ _ c.is_window.ensures c.if-not-is_window.false) _ c.due_ahead.ensures

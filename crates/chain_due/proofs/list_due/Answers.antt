@@ -11,29 +11,6 @@ use Rattle.chain_due.specs.Due.{is_due}
 use Rattle.chain_due.proofs.Passing.{Reported, reported_starts, reported_length, reported_all, reported_no, reported_room, reported_yes, passed_few, step_slot}
 use Rattle.chain_due.proofs.list_due.Goals as goal
 
--- TODO over a place
-abbrev begun : tie.At-loop invariant-loop decreases-loop → tie.Start invariant-loop decreases-loop
-begun c = search
-
--- TODO
--- where a slot is due, there is room for it
--- module _ (c : tie.Then2 invariant-loop decreases-loop) where
---   at : tie.At-loop invariant-loop decreases-loop
---   at = search
-
--- TODO
---   start : tie.Start invariant-loop decreases-loop
---   start = search
-
--- TODO
---   few : at.loop.reported + 1 ≤ start.args.walk.max_advances
---   unfolding at start
---   few =
---       let told : tie.After-is-due invariant-loop decreases-loop = search in
---       let on : tie.Else1 invariant-loop decreases-loop = search in
---       let step : tie.After-advance-on-chain invariant-loop decreases-loop = search in
---       passed_few at.loop.inv.0.passed step.advance-on-chain.ensures on.if1.left (sym told.is-due.ensures ∙ c.if2.true)
-
 pub loop-window-init : goal.loop-window-init
 loop-window-init c = (reported_starts _ _ _ _, c.requires.on_chain)
 
@@ -50,30 +27,25 @@ pub is_due-requires : goal.is_due-requires
 is_due-requires c = let s = step_slot (shape_if_well_formed _ _ c.requires.well_formed) _ c.advance_on_chain-step.ensures c.if-step-eq0.false in record { in_column = (s.some, s.within); window = c.requires.window }
 
 pub overflow_cast-report : goal.overflow_cast-report
-unfolding at start
-overflow_cast-report c = omega (arith, few passes, (start passes).good)
+overflow_cast-report c = omega (arith, passed_few c.loop-window.invariant.0.passed c.advance_on_chain-step.ensures c.if-step-eq0.false (sym c.is_due.ensures ∙ c.if-is_due.true))
 
 pub offset_bounds-report-reported : goal.offset_bounds-report-reported
-unfolding at start
-offset_bounds-report-reported c = omega (arith, few passes, (start passes).good)
+offset_bounds-report-reported c = omega (arith, passed_few c.loop-window.invariant.0.passed c.advance_on_chain-step.ensures c.if-step-eq0.false (sym c.is_due.ensures ∙ c.if-is_due.true))
 
 pub bounds-report-reported : goal.bounds-report-reported
-unfolding at start
-bounds-report-reported c = reported_room (at passes).loop.inv.0 c.advance_on_chain-step.ensures c.if-step-eq0.false (start passes).pre.1.1.0 (sym c.is_due.ensures ∙ c.if-is_due.true)
+bounds-report-reported c = reported_room c.loop-window.invariant.0 c.advance_on_chain-step.ensures c.if-step-eq0.false c.requires.room (sym c.is_due.ensures ∙ c.if-is_due.true)
 
 pub overflow_add-reported : goal.overflow_add-reported
-unfolding at start
-overflow_add-reported c = omega (arith, few passes, (start passes).good)
+overflow_add-reported c = omega (arith, passed_few c.loop-window.invariant.0.passed c.advance_on_chain-step.ensures c.if-step-eq0.false (sym c.is_due.ensures ∙ c.if-is_due.true))
 
 pub loop-window-smaller-then-is_due : goal.loop-window-smaller-then-is_due
 loop-window-smaller-then-is_due c = ahead_less _ _ _ c.advance_on_chain-step.ensures c.if-step-eq0.false
 
 pub loop-window-preserved-then-is_due : goal.loop-window-preserved-then-is_due
-unfolding at start
-loop-window-preserved-then-is_due c = (reported_yes (at passes).loop.inv.0 c.advance_on_chain-step.ensures c.if-step-eq0.false (start passes).pre.1.1.0 (sym c.is_due.ensures ∙ c.if-is_due.true), step_on_chain (start passes).pre.0 _ c.advance_on_chain-step.ensures (at passes).loop.inv.1)
+loop-window-preserved-then-is_due c = (reported_yes c.loop-window.invariant.0 c.advance_on_chain-step.ensures c.if-step-eq0.false c.requires.room (sym c.is_due.ensures ∙ c.if-is_due.true), step_on_chain c.requires.well_formed _ c.advance_on_chain-step.ensures c.loop-window.invariant.1)
 
 pub loop-window-smaller : goal.loop-window-smaller
 loop-window-smaller c = ahead_less _ _ _ c.advance_on_chain-step.ensures c.if-step-eq0.false
 
 pub loop-window-preserved : goal.loop-window-preserved
-loop-window-preserved c = (reported_no c.loop-window.invariant.0 c.advance_on_chain-step.ensures c.if-step-eq0.false (sym c.is_due.ensures ∙ c.if-is_due.false), step_on_chain (begun at).pre.0 _ c.advance_on_chain-step.ensures c.loop-window.invariant.1)
+loop-window-preserved c = (reported_no c.loop-window.invariant.0 c.advance_on_chain-step.ensures c.if-step-eq0.false (sym c.is_due.ensures ∙ c.if-is_due.false), step_on_chain c.requires.well_formed _ c.advance_on_chain-step.ensures c.loop-window.invariant.1)

@@ -4,15 +4,6 @@ use Rattle.chain_insertion.proofs.Insertions.{roomy, no_slot, room, new_slot_lem
 use Rattle.well_formed.proofs.WellFormed.{shape_if_well_formed}
 use Rattle.chain_insertion.proofs.insert.Goals as goal
 
--- TODO over a place
--- the places before the kind was checked
-abbrev begun : tie.After-check-link-insert-kind → tie.Start
-begun c = search
-
--- TODO over a place
-abbrev chosen : tie.After-check-link-insert-kind → tie.After-new-slot
-chosen c = search
-
 pub new_slot-t-requires : goal.new_slot-t-requires
 new_slot-t-requires c = roomy c.requires
 
@@ -20,15 +11,15 @@ pub check_link_insert_kind-requires : goal.check_link_insert_kind-requires
 check_link_insert_kind-requires c = shape_if_well_formed _ _ c.requires
 
 pub returns-then-t-eq0 : goal.returns-then-t-eq0
-returns-then-t-eq0 c = no_room _ _ _ _ _ _ c.in-Between.ensures (no_slot _ (chosen told).new-slot.ensures c.if-t-eq0.true)
+returns-then-t-eq0 c = no_room _ _ _ _ _ _ c.in-Between.ensures (no_slot _ c.new_slot-t.ensures c.if-t-eq0.true)
 
 pub insert_between-requires : goal.insert_between-requires
-insert_between-requires c = insertable _ _ _ _ (begun told).pre (chosen told).new-slot.ensures c.if-t-eq0.false c.in-Between.ensures
+insert_between-requires c = insertable _ _ _ _ c.requires c.new_slot-t.ensures c.if-t-eq0.false c.in-Between.ensures
 
 pub returns-in-Nowhere : goal.returns-in-Nowhere
 returns-in-Nowhere c = no_place _ _ _ _ c.in-Nowhere.ensures
 
 pub returns-else-t-eq0 : goal.returns-else-t-eq0
 returns-else-t-eq0 c =
-    let slot = (chosen told).new-slot.ensures in
+    let slot = c.new_slot-t.ensures in
     put_in _ _ _ _ _ _ c.in-Between.ensures (room _ slot c.if-t-eq0.false) (new_slot_lem _ slot c.if-t-eq0.false) c.insert_between.ensures
