@@ -1,5 +1,7 @@
 // The drain of a chain (`ChainDrain` of chain/chain_iterators.rs) in an arena that passed the check. Since no drain is left half done, the report can
 // hold the walk's slots before the first of them is removed: so the order is the walk's own, and no memory is needed but the lent report.
+#![tactic(auto)]
+
 ghost use Rattle.std.specs.Prelude.{◌≡◌};
 ghost use Rattle.definitions.specs.Arena.{capacity_limit, largest_generation, arena};
 ghost use Rattle.definitions.specs.Lent.{lent};

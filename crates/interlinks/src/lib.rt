@@ -1,4 +1,6 @@
 // The check of the interlinks (chain/chain_arena.rs, `_check_interlinks`): rule 11 at every link, and where it fails first.
+#![tactic(auto)]
+
 ghost use Rattle.std.specs.Prelude.{◌≡◌, ◌+◌, ◌≤◌, ◌<◌, length};
 ghost use Rattle.definitions.specs.Columns.{first_or};
 ghost use Rattle.definitions.specs.Arena.{capacity_limit};

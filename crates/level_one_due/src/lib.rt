@@ -1,4 +1,6 @@
 // Level One, what is due of a chain, as a host calls it.
+#![tactic(auto)]
+
 ghost use Rattle.std.specs.Prelude.{List, [], ◌∷◌, ◌≡◌, ℕ};
 ghost use Rattle.definitions.specs.Arena.{Arena};
 ghost use Rattle.definitions.specs.Lent.{at_entry, at_exit};

@@ -1,4 +1,6 @@
 // Level Two, the insertion of a link, as a host calls it.
+#![tactic(auto)]
+
 ghost use Rattle.std.specs.Prelude.{List, [], ◌∷◌, ◌≡◌, ℕ};
 ghost use Rattle.definitions.specs.Arena.{Arena, arena};
 ghost use Rattle.definitions.specs.Read.{pointer};

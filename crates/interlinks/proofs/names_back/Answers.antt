@@ -1,0 +1,18 @@
+-- `interlinks::names_back` meets its contract. Its tests are those of the definition, read at place s - 1. Assumes nothing.
+use mir.Facts.{Fits-widen}
+use Rattle.definitions.proofs.Tests.{tests}
+use Rattle.interlinks.proofs.Neighbours.{names_back_read}
+use borrow.Author.Rules.{rules}
+use Rattle.interlinks.proofs.names_back.Goals as goal
+
+pub returns-then-s-eq0 : goal.returns-then-s-eq0
+returns-then-s-eq0 c = search (names_back_read, tests) depth 21
+
+pub returns-then-n-s : goal.returns-then-n-s
+returns-then-n-s c = search (names_back_read, tests) depth 21
+
+pub returns-then-generation-s-eq0 : goal.returns-then-generation-s-eq0
+returns-then-generation-s-eq0 c = search (names_back_read, tests) depth 21
+
+pub returns : goal.returns
+returns c = search (names_back_read, tests) depth 21
