@@ -9,7 +9,7 @@ returns-in-1 c = connects _ _ _ _ _ _ c.number.ensures c.in-1.is c.connect.ensur
 pub returns-in_default : goal.returns-in_default
 returns-in_default c =
     let below = c.if-code-lt2.true in
-    let other = c.in_default.rest.1 in
+    let other = c.in_default.in_default-own.rest.1 in
     no_code _ _ _ (zero_left below other)
 
 pub returns-then-code-lt4 : goal.returns-then-code-lt4
@@ -23,5 +23,5 @@ returns-in-5 c = removes _ _ _ _ _ c.in-5.is c.remove.result c.remove.ensures c.
 
 pub returns-in_default-code : goal.returns-in_default-code
 returns-in_default-code c =
-    inserts _ _ _ _ _ (from_six c.if-code-lt4.false c.in_default-code.rest.0.1 c.in_default-code.rest.1)
+    inserts _ _ _ _ _ (from_six c.if-code-lt4.false c.in_default-code.in_default-code-own.rest.0.1 c.in_default-code.in_default-code-own.rest.1)
     c.insert_coded.result c.insert_coded.ensures c.number-in_default-code.ensures

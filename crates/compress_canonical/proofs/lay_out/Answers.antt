@@ -31,5 +31,5 @@ lay_chains-requires c = (_, is_ready c.requires c.mark_links.auto.where_from c.m
 
 pub returns : goal.returns
 returns c =
-    let marks = c.mark_links in
-    is_laid_in c.requires marks.kept.0 marks.ensures (c.lay_chains.ensures _ (is_ready c.requires marks.kept.0 marks.ensures))
+    let same = c.mark_links.auto.where_from in
+    is_laid_in c.requires same c.mark_links.ensures (c.lay_chains.ensures _ (is_ready c.requires same c.mark_links.ensures))

@@ -7,26 +7,21 @@ use Rattle.interlinks.proofs.Passes.{Going, going_none, going_most, going_free, 
 use borrow.Author.Rules.{rules}
 use Rattle.interlinks.proofs.prev_sides.Goals as goal
 
--- TODO over a place
--- the counts are at most i
-most : (turn : tie.In-loop invariant-loop decreases-loop) → (turn.before.loop.nexts ≤ turn.before.loop.i) × (turn.before.loop.prevs ≤ turn.before.loop.i)
-most turn = going_most turn.before.loop.invariant
-
 pub loop-i-init : goal.loop-i-init
 loop-i-init c = going_none _ _ _ _
 
 pub overflow_add-nexts : goal.overflow_add-nexts
-overflow_add-nexts c = omega (arith, most (search))
+overflow_add-nexts c = omega (arith, going_most c.loop-i.invariant)
 
 pub returns-then-not-leads_to : goal.returns-then-not-leads_to
-returns-then-not-leads_to c = prev_stopped _ _ _ _ c.before.loop.inv c.loop-i-test.true c.if-generation-i-ne0.true c.if-prev-i-ne0.true (said_false _ _ c.leads_to.ensures c.if-not-leads_to.true)
+returns-then-not-leads_to c = prev_stopped _ _ _ _ c.loop-i.invariant c.loop-i-test.true c.if-generation-i-ne0.true c.if-prev-i-ne0.true (said_false _ _ c.leads_to.ensures c.if-not-leads_to.true)
 
 pub overflow_add-prevs : goal.overflow_add-prevs
-overflow_add-prevs c = omega (arith, most (search))
+overflow_add-prevs c = omega (arith, going_most c.loop-i.invariant)
 
 pub loop-i-preserved : goal.loop-i-preserved
 loop-i-preserved c =
-    let going = c.before.loop.inv in
+    let going = c.loop-i.invariant in
     let more = c.loop-i-test.true in
     ⊎_elim
     (λ w. rw (w.8, w.9) (going_led going more w.0.taken (⊎_elim (λ v. inl (v.0.taken, v.1)) (λ v. inr (v.0.left, v.1)) w.2.came) c.requires.4 w.4.taken (said_true _ _ w.6.ensures w.7.left)))
@@ -36,7 +31,7 @@ loop-i-preserved c =
     c.if-generation-i-ne0.branch
 
 pub returns-then-nexts-prevs : goal.returns-then-nexts-prevs
-returns-then-nexts-prevs c = prev_passed _ _ _ _ c.before.loop.inv c.loop-i-test.false c.if-nexts-prevs.true
+returns-then-nexts-prevs c = prev_passed _ _ _ _ c.loop-i.invariant c.loop-i-test.false c.if-nexts-prevs.true
 
 pub returns : goal.returns
-returns c = prev_passed_alone _ _ _ _ c.before.loop.inv c.loop-i-test.false c.if-nexts-prevs.false
+returns c = prev_passed_alone _ _ _ _ c.loop-i.invariant c.loop-i-test.false c.if-nexts-prevs.false
