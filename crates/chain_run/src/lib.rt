@@ -1,4 +1,6 @@
 // A run of edits on an arena that passed the check.
+#![tactic(auto)]
+
 ghost use Rattle.std.specs.Prelude.{◌≡◌, ◌/◌, ◌≤◌, length};
 ghost use Rattle.definitions.specs.Arena.{capacity_limit, largest_generation, arena};
 ghost use Rattle.definitions.specs.Check.{WellFormed};

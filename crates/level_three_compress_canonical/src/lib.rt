@@ -1,4 +1,6 @@
 // Level Three, canonical compression, as a host calls it.
+#![tactic(auto)]
+
 ghost use Rattle.definitions.specs.Arena.{arena};
 ghost use Rattle.std.specs.Prelude.{not, [], eqb};
 ghost use Rattle.definitions.specs.Calls.{CompressCanonical};

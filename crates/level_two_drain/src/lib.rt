@@ -1,4 +1,6 @@
 // Level Two, the drain of a chain, as a host calls it.
+#![tactic(auto)]
+
 ghost use Rattle.std.specs.Prelude.{List, [], ◌∷◌, ◌≡◌, ℕ};
 ghost use Rattle.definitions.specs.Arena.{Arena, arena};
 ghost use Rattle.definitions.specs.Read.{pointer};

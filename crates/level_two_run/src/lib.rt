@@ -1,4 +1,6 @@
 // Level Two, many edits in one call, as a host calls it.
+#![tactic(auto)]
+
 ghost use Rattle.definitions.specs.Arena.{arena};
 ghost use Rattle.std.specs.Prelude.{[]};
 ghost use Rattle.definitions.specs.Calls.{Run};

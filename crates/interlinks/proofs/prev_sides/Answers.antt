@@ -6,6 +6,7 @@ use Rattle.definitions.proofs.Tests.{said_true, said_false}
 use Rattle.interlinks.proofs.Passes.{Going, going_none, going_most, going_free, going_start, going_led, prev_stopped, prev_passed, prev_passed_alone}
 use borrow.Author.Rules.{rules}
 use Rattle.interlinks.proofs.prev_sides.Goals as goal
+use Rattle.interlinks.proofs.prev_sides.Goals.{then-generation-i-ne0+then-prev-i-ne0+else-not-leads_to, then-next-i-ne0, else-next-i-ne0, then-generation-i-ne0+else-prev-i-ne0, else-generation-i-ne0}
 
 pub loop-i-init : goal.loop-i-init
 loop-i-init c = going_none _ _ _ _
@@ -23,12 +24,17 @@ pub loop-i-preserved : goal.loop-i-preserved
 loop-i-preserved c =
     let going = c.loop-i.invariant in
     let more = c.loop-i-test.true in
-    ⊎_elim
-    (λ w. rw (w.8, w.9) (going_led going more w.0.taken (⊎_elim (λ v. inl (v.0.taken, v.1)) (λ v. inr (v.0.left, v.1)) w.2.came) c.requires.4 w.4.taken (said_true _ _ w.6.ensures w.7.left)))
-    (⊎_elim
-    (λ w. rw (w.5, w.6) (going_start going more w.0.taken (⊎_elim (λ v. inl (v.0.taken, v.1)) (λ v. inr (v.0.left, v.1)) w.2.came) w.4.left))
-    (λ w. rw (w.1, w.2) (going_free going more w.0.left)))
-    c.if-generation-i-ne0.branch
+    elim c.if-generation-i-ne0.branch [
+      then-generation-i-ne0+then-prev-i-ne0+else-not-leads_to w ↦
+        rw (w.nexts-is, w.prevs-is) (going_led going more w.if-generation-i-ne0.true
+          (elim w.if-next-i-ne0.branch [ then-next-i-ne0 v ↦ inl (v.if-next-i-ne0.true, v.nexts-is) | else-next-i-ne0 v ↦ inr (v.if-next-i-ne0.false, v.nexts-is) ])
+          c.requires.4 w.if-prev-i-ne0.true (said_true _ _ w.leads_to.ensures w.if-not-leads_to.false))
+    | then-generation-i-ne0+else-prev-i-ne0 w ↦
+        rw (w.nexts-is, w.prevs-is) (going_start going more w.if-generation-i-ne0.true
+          (elim w.if-next-i-ne0.branch [ then-next-i-ne0 v ↦ inl (v.if-next-i-ne0.true, v.nexts-is) | else-next-i-ne0 v ↦ inr (v.if-next-i-ne0.false, v.nexts-is) ])
+          w.if-prev-i-ne0.false)
+    | else-generation-i-ne0 w ↦ rw (w.nexts-is, w.prevs-is) (going_free going more w.if-generation-i-ne0.false)
+    ]
 
 pub returns-then-nexts-prevs : goal.returns-then-nexts-prevs
 returns-then-nexts-prevs c = prev_passed _ _ _ _ c.loop-i.invariant c.loop-i-test.false c.if-nexts-prevs.true
