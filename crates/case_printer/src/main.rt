@@ -1,35 +1,34 @@
 // The marked case K11, run through the proved call and printed (REFERENCE, Marked cases): a line for each slot, with the slot that its link was in
 // before, and its prev and next.
+#![tactic(auto)]
+
 ghost use Rattle.std.specs.Prelude.{◌≡◌, length};
 
 use level_three_compress_canonical::chain_arena_compress_canonical;
-use libc::STDOUT_FILENO;
+use std::io;
 
 // One slot on a line, its words in decimal with commas between them.
-fn print_slot(new: u64, old: u32, prev: u32, next: u32) {
-    io::print_decimal(STDOUT_FILENO, new);
-    io::write_all(STDOUT_FILENO, b",");
-    io::print_decimal(STDOUT_FILENO, old as u64);
-    io::write_all(STDOUT_FILENO, b",");
-    io::print_decimal(STDOUT_FILENO, prev as u64);
-    io::write_all(STDOUT_FILENO, b",");
-    io::print_decimal(STDOUT_FILENO, next as u64);
-    io::write_all(STDOUT_FILENO, b"\n");
+fn print_slot(rt: &impl Print, new: u64, old: u32, prev: u32, next: u32) -> io::Result<()> {
+    println!(rt; "{new},{old},{prev},{next}")
 }
 
 // All slots of the columns, in order.
-fn print_slots(prev: &[u32], next: &[u32], where_from: &[u32])
+fn print_slots(
+    rt: &impl Print,
+    prev: &[u32],
+    next: &[u32],
+    where_from: &[u32],
+) -> io::Result<()>
     requires { (length prev.now ≡ length where_from.now) × (length next.now ≡ length where_from.now) }
 {
-    let mut s: usize = 0;
-    while s < where_from.len() {
-        print_slot(s as u64 + 1, where_from[s], prev[s], next[s]);
-        s += 1;
+    for s in 0..where_from.len() {
+        print_slot(rt, s as u64 + 1, where_from[s], prev[s], next[s])?;
     }
+    Ok(())
 }
 
 // K11: slots 1 and 5 are a chain, slots 2, 3 and 4 are lone, and all links are of generation 5.
-fn main() {
+fn main(rt: HostRuntime) -> io::Result<()> {
     let mut prev = [0u32, 0, 0, 0, 1];
     let mut next = [5u32, 0, 0, 0, 0];
     let mut generation = [5u32; 5];
@@ -45,6 +44,6 @@ fn main() {
         0,
         &mut where_from,
     );
-    io::write_all(STDOUT_FILENO, b"new,old,prev,next\n");
-    print_slots(&prev, &next, &where_from);
+    println!(rt; "new,old,prev,next")?;
+    print_slots(&rt, &prev, &next, &where_from)
 }

@@ -1,10 +1,12 @@
 // Prints the first dot of each line of the frame, one on a line: the entries of the table `LINE_STARTS` of the crate frame_clock, which a test holds to what
 // is printed here (REFERENCE, Frame clock).
+#![tactic(auto)]
+
 ghost use Rattle.std.specs.Prelude.{◌≡◌, ◌<◌};
 ghost use Rattle.definitions.specs.Clock.{frame_lines, first_dot};
 
 use frame_clock::{DOTS_PER_LINE, Dot, LINES, Line};
-use libc::STDOUT_FILENO;
+use std::io;
 
 // The first dot of a line, computed and not read off the table.
 fn start_of(line: Line) -> Dot
@@ -15,18 +17,17 @@ fn start_of(line: Line) -> Dot
 }
 
 // The first dot of a line, in decimal on a line of its own.
-fn print_start(line: Line)
+fn print_start(rt: &impl Print, line: Line) -> io::Result<()>
     requires { line.0 < frame_lines }
 {
-    io::print_decimal(STDOUT_FILENO, start_of(line).0 as u64);
-    io::write_all(STDOUT_FILENO, b"\n");
+    let start = start_of(line).0;
+    println!(rt; "{start}")
 }
 
 // All lines, in their order.
-fn main() {
-    let mut line: u32 = 0;
-    while line < LINES {
-        print_start(Line(line));
-        line += 1;
+fn main(rt: HostRuntime) -> io::Result<()> {
+    for line in 0..LINES {
+        print_start(&rt, Line(line))?;
     }
+    Ok(())
 }

@@ -1,6 +1,5 @@
 // The parts of a case, by the words of its line. Each part has at most 64 words.
-ghost use Rattle.std.specs.Prelude.{◌≤◌};
-ghost use Rattle.io.specs.Counts.{IsPrefixLen};
+ghost use Rattle.std.specs.Prelude.{◌≡◌, ◌≤◌, length, take};
 
 // The word that is the code of the call.
 pub const CODE: usize = 0;
@@ -81,7 +80,8 @@ pub fn lent_of(case: &[u32; 192], part: usize) -> usize
 // A part of which n words are lent.
 pub fn words_of(case: &[u32; 192], part: usize, n: usize) -> [u32; 64]
     requires { n ≤ 64 }
-    ensures { IsPrefixLen n result }
+    ensures bound { n ≤ length result }
+    ensures count { n ≡ length (take n result) }
 {
     let from = start(case, part);
     let mut words = [0u32; 64];

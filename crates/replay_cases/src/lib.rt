@@ -11,11 +11,16 @@
 // oracle/src/model.rs; not by these programs. oracle/src/bin/record.rs says which cases it takes, and which program gets the cases of a call.
 //
 // Here are the text of a line, its parts, and the text of an answer; no exported call.
+#![tactic(auto)]
+
 mod answer;
 mod case;
 mod text;
 
-pub use answer::{no_call, write_answer, write_arena, write_link_no_gen, write_word, write_words};
+pub use answer::{
+    end_line, no_call, write_answer, write_arena, write_link_no_gen, write_number, write_word,
+    write_words,
+};
 pub use case::{
     ARGS, Arguments, CODE, GENERATION, HEADER, Insertion, LENT, NEXT, PAYLOAD, PREV, arguments_of,
     insertion_of, lent_of, words_of,

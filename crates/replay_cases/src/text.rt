@@ -1,21 +1,7 @@
 // Lines of decimal numbers with a space between them, from standard input. A line is taken as it stands: the tests of oracle/src/bin/record.rs hold each
 // stored line to its form.
-
-// What is read: a byte, or the end of the input.
-#[derive(Clone, Copy)]
-enum Read {
-    Byte(u8),
-    End,
-}
-
-// The next byte.
-fn next_byte() -> Read {
-    let mut byte = [0u8; 1];
-    if io::read_full(0, &mut byte) == 0 {
-        return Read::End;
-    }
-    Read::Byte(byte[0])
-}
+use std::io;
+use std::io::{Bytes, Read};
 
 // The value with the byte's digit behind it; 0 if the byte is no digit, or the value does not fit a word.
 fn with_digit(value: u32, byte: u8) -> u32 {
@@ -33,17 +19,13 @@ fn with_digit(value: u32, byte: u8) -> u32 {
 }
 
 // The words of the next line, 0 behind the last; no word but 0 if there is no line, or it has more than 4,096 bytes. No call has the code 0.
-pub fn next_case() -> [u32; 192] {
+pub fn next_case<R: Read + Drop>(input: &mut Bytes<R>) -> io::Result<[u32; 192]> {
     let mut words = [0u32; 192];
     let mut n = 0;
-    let mut i = 0usize;
-    while i < 4096 {
-        i += 1;
-        let Read::Byte(byte) = next_byte() else {
-            return [0; 192];
-        };
+    for byte in input.take(4096) {
+        let byte = byte?;
         if byte == b'\n' {
-            return words;
+            return Ok(words);
         }
         if byte != b' ' {
             words[n] = with_digit(words[n], byte);
@@ -51,5 +33,5 @@ pub fn next_case() -> [u32; 192] {
             n += 1;
         }
     }
-    [0; 192]
+    Ok([0; 192])
 }
