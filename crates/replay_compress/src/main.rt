@@ -1,4 +1,6 @@
 // Replays stored answers of both compressions. The crate replay_cases says what the files stdin and stdout hold and where they come from.
+#![tactic(auto)]
+
 use answers::Answer;
 use level_three_compress_canonical::chain_arena_compress_canonical;
 use level_three_compress_with::chain_arena_compress_with;
@@ -6,9 +8,11 @@ use replay_cases::{
     CODE, GENERATION, HEADER, LENT, NEXT, PAYLOAD, PREV, arguments_of, lent_of, next_case, no_call,
     words_of, write_answer, write_arena, write_words,
 };
+use std::io;
+use std::io::{BufReader, BufWriter, Read, Write};
 
 // Compresses in slot order, with the lent slice for the report.
-fn compress_with(case: &[u32; 192]) {
+fn compress_with<W: Write>(out: &mut W, case: &[u32; 192]) -> io::Result<()> {
     let p = lent_of(case, PREV);
     let q = lent_of(case, NEXT);
     let g = lent_of(case, GENERATION);
@@ -30,13 +34,13 @@ fn compress_with(case: &[u32; 192]) {
         arguments_of(case).first,
         &mut report[..m],
     );
-    write_answer(answer);
-    write_words(report, m);
-    write_arena(prev, p, next, q, generation, g, payload, w, header, h);
+    write_answer(out, answer)?;
+    write_words(out, report, m)?;
+    write_arena(out, prev, p, next, q, generation, g, payload, w, header, h)
 }
 
 // Compresses canonically, with the lent slice for the where-from column.
-fn compress_canonical(case: &[u32; 192]) {
+fn compress_canonical<W: Write>(out: &mut W, case: &[u32; 192]) -> io::Result<()> {
     let p = lent_of(case, PREV);
     let q = lent_of(case, NEXT);
     let g = lent_of(case, GENERATION);
@@ -58,27 +62,31 @@ fn compress_canonical(case: &[u32; 192]) {
         arguments_of(case).first,
         &mut where_from[..m],
     );
-    write_answer(answer);
-    write_words(where_from, m);
-    write_arena(prev, p, next, q, generation, g, payload, w, header, h);
+    write_answer(out, answer)?;
+    write_words(out, where_from, m)?;
+    write_arena(out, prev, p, next, q, generation, g, payload, w, header, h)
 }
 
 // Replays a case.
-fn replay(case: &[u32; 192]) {
+fn replay<W: Write>(out: &mut W, case: &[u32; 192]) -> io::Result<()> {
     match case[CODE] {
-        17 => compress_with(case),
-        18 => compress_canonical(case),
-        _ => write_answer(no_call()),
+        17 => compress_with(out, case),
+        18 => compress_canonical(out, case),
+        _ => write_answer(out, no_call()),
     }
 }
 
 // Replays the cases of standard input, up to its end.
-fn main() {
-    for i in 0..65536usize {
-        let case = next_case();
+fn main(rt: HostRuntime) -> io::Result<()> {
+    let alloc = rt.alloc();
+    let mut input = BufReader::new(alloc, rt.reader())?.bytes();
+    let mut out = BufWriter::new(alloc, io::writer(&rt))?;
+    for _ in 0..65536usize {
+        let case = next_case(&mut input)?;
         if case[CODE] == 0 {
-            return;
+            break;
         }
-        replay(&case);
+        replay(&mut out, &case)?;
     }
+    out.flush()
 }

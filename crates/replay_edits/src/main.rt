@@ -1,5 +1,7 @@
 // Replays stored answers of the edits of interlinks, of the generation and of the freelist. The crate replay_cases says what the files stdin and stdout
 // hold and where they come from.
+#![tactic(auto)]
+
 use answers::Answer;
 use level_two_edits::{
     chain_arena_break_next, chain_arena_break_prev, chain_arena_connect, chain_arena_exchange_next,
@@ -11,6 +13,8 @@ use replay_cases::{
     Arguments, CODE, GENERATION, HEADER, NEXT, PAYLOAD, PREV, arguments_of, lent_of, next_case,
     no_call, words_of, write_answer, write_arena,
 };
+use std::io;
+use std::io::{BufReader, BufWriter, Read, Write};
 
 // Makes the call of a code that edits interlinks.
 fn edit(
@@ -69,7 +73,7 @@ fn call(
 }
 
 // Replays a case.
-fn replay(case: &[u32; 192]) {
+fn replay<W: Write>(out: &mut W, case: &[u32; 192]) -> io::Result<()> {
     let p = lent_of(case, PREV);
     let q = lent_of(case, NEXT);
     let g = lent_of(case, GENERATION);
@@ -89,17 +93,21 @@ fn replay(case: &[u32; 192]) {
         &mut header[..h],
         arguments_of(case),
     );
-    write_answer(answer);
-    write_arena(prev, p, next, q, generation, g, payload, w, header, h);
+    write_answer(out, answer)?;
+    write_arena(out, prev, p, next, q, generation, g, payload, w, header, h)
 }
 
 // Replays the cases of standard input, up to its end.
-fn main() {
-    for i in 0..65536usize {
-        let case = next_case();
+fn main(rt: HostRuntime) -> io::Result<()> {
+    let alloc = rt.alloc();
+    let mut input = BufReader::new(alloc, rt.reader())?.bytes();
+    let mut out = BufWriter::new(alloc, io::writer(&rt))?;
+    for _ in 0..65536usize {
+        let case = next_case(&mut input)?;
         if case[CODE] == 0 {
-            return;
+            break;
         }
-        replay(&case);
+        replay(&mut out, &case)?;
     }
+    out.flush()
 }

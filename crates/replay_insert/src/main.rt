@@ -1,12 +1,16 @@
 // Replays stored answers of insertions. The crate replay_cases says what the files stdin and stdout hold and where they come from.
+#![tactic(auto)]
+
 use level_two_insert::chain_arena_insert;
 use replay_cases::{
     CODE, GENERATION, HEADER, NEXT, PAYLOAD, PREV, insertion_of, lent_of, next_case, no_call,
     words_of, write_answer, write_arena, write_word,
 };
+use std::io;
+use std::io::{BufReader, BufWriter, Read, Write};
 
 // Inserts a link.
-fn insert(case: &[u32; 192]) {
+fn insert<W: Write>(out: &mut W, case: &[u32; 192]) -> io::Result<()> {
     let p = lent_of(case, PREV);
     let q = lent_of(case, NEXT);
     let g = lent_of(case, GENERATION);
@@ -31,27 +35,31 @@ fn insert(case: &[u32; 192]) {
         a.q_generation,
         a.payload,
     );
-    write_answer(r.answer);
-    write_word(r.slot);
-    write_word(r.generation);
-    write_arena(prev, p, next, q, generation, g, payload, w, header, h);
+    write_answer(out, r.answer)?;
+    write_word(out, r.slot)?;
+    write_word(out, r.generation)?;
+    write_arena(out, prev, p, next, q, generation, g, payload, w, header, h)
 }
 
 // Replays a case.
-fn replay(case: &[u32; 192]) {
+fn replay<W: Write>(out: &mut W, case: &[u32; 192]) -> io::Result<()> {
     match case[CODE] {
-        19 => insert(case),
-        _ => write_answer(no_call()),
+        19 => insert(out, case),
+        _ => write_answer(out, no_call()),
     }
 }
 
 // Replays the cases of standard input, up to its end.
-fn main() {
-    for i in 0..65536usize {
-        let case = next_case();
+fn main(rt: HostRuntime) -> io::Result<()> {
+    let alloc = rt.alloc();
+    let mut input = BufReader::new(alloc, rt.reader())?.bytes();
+    let mut out = BufWriter::new(alloc, io::writer(&rt))?;
+    for _ in 0..65536usize {
+        let case = next_case(&mut input)?;
         if case[CODE] == 0 {
-            return;
+            break;
         }
-        replay(&case);
+        replay(&mut out, &case)?;
     }
+    out.flush()
 }

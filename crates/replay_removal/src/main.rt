@@ -1,14 +1,18 @@
 // Replays stored answers of the calls that remove links: one link, and a whole chain. The crate replay_cases says what the files stdin and stdout hold and
 // where they come from.
+#![tactic(auto)]
+
 use level_two_drain::chain_arena_drain;
 use level_two_remove::chain_arena_remove;
 use replay_cases::{
     CODE, GENERATION, HEADER, LENT, NEXT, PAYLOAD, PREV, arguments_of, lent_of, next_case, no_call,
     words_of, write_answer, write_arena, write_link_no_gen, write_word, write_words,
 };
+use std::io;
+use std::io::{BufReader, BufWriter, Read, Write};
 
 // Removes a link.
-fn remove(case: &[u32; 192]) {
+fn remove<W: Write>(out: &mut W, case: &[u32; 192]) -> io::Result<()> {
     let p = lent_of(case, PREV);
     let q = lent_of(case, NEXT);
     let g = lent_of(case, GENERATION);
@@ -29,12 +33,12 @@ fn remove(case: &[u32; 192]) {
         a.first,
         a.second,
     );
-    write_link_no_gen(r);
-    write_arena(prev, p, next, q, generation, g, payload, w, header, h);
+    write_link_no_gen(out, r)?;
+    write_arena(out, prev, p, next, q, generation, g, payload, w, header, h)
 }
 
 // Drains a chain, with the lent slice for the report.
-fn drain(case: &[u32; 192]) {
+fn drain<W: Write>(out: &mut W, case: &[u32; 192]) -> io::Result<()> {
     let p = lent_of(case, PREV);
     let q = lent_of(case, NEXT);
     let g = lent_of(case, GENERATION);
@@ -58,29 +62,33 @@ fn drain(case: &[u32; 192]) {
         a.second,
         &mut report[..m],
     );
-    write_answer(r.answer);
-    write_word(r.items);
-    write_word(r.overflowed);
-    write_words(report, m);
-    write_arena(prev, p, next, q, generation, g, payload, w, header, h);
+    write_answer(out, r.answer)?;
+    write_word(out, r.items)?;
+    write_word(out, r.overflowed)?;
+    write_words(out, report, m)?;
+    write_arena(out, prev, p, next, q, generation, g, payload, w, header, h)
 }
 
 // Replays a case.
-fn replay(case: &[u32; 192]) {
+fn replay<W: Write>(out: &mut W, case: &[u32; 192]) -> io::Result<()> {
     match case[CODE] {
-        11 => remove(case),
-        12 => drain(case),
-        _ => write_answer(no_call()),
+        11 => remove(out, case),
+        12 => drain(out, case),
+        _ => write_answer(out, no_call()),
     }
 }
 
 // Replays the cases of standard input, up to its end.
-fn main() {
-    for i in 0..65536usize {
-        let case = next_case();
+fn main(rt: HostRuntime) -> io::Result<()> {
+    let alloc = rt.alloc();
+    let mut input = BufReader::new(alloc, rt.reader())?.bytes();
+    let mut out = BufWriter::new(alloc, io::writer(&rt))?;
+    for _ in 0..65536usize {
+        let case = next_case(&mut input)?;
         if case[CODE] == 0 {
-            return;
+            break;
         }
-        replay(&case);
+        replay(&mut out, &case)?;
     }
+    out.flush()
 }

@@ -1,12 +1,16 @@
 // Replays stored answers of runs of commands. The crate replay_cases says what the files stdin and stdout hold and where they come from.
+#![tactic(auto)]
+
 use level_two_run::chain_arena_run;
 use replay_cases::{
     ARGS, CODE, GENERATION, HEADER, LENT, NEXT, PAYLOAD, PREV, lent_of, next_case, no_call,
     words_of, write_answer, write_arena, write_words,
 };
+use std::io;
+use std::io::{BufReader, BufWriter, Read, Write};
 
 // Runs the argument words as commands, with the lent slice for their answers.
-fn run(case: &[u32; 192]) {
+fn run<W: Write>(out: &mut W, case: &[u32; 192]) -> io::Result<()> {
     let p = lent_of(case, PREV);
     let q = lent_of(case, NEXT);
     let g = lent_of(case, GENERATION);
@@ -30,26 +34,30 @@ fn run(case: &[u32; 192]) {
         &commands[..n],
         &mut answers[..m],
     );
-    write_answer(r);
-    write_words(answers, m);
-    write_arena(prev, p, next, q, generation, g, payload, w, header, h);
+    write_answer(out, r)?;
+    write_words(out, answers, m)?;
+    write_arena(out, prev, p, next, q, generation, g, payload, w, header, h)
 }
 
 // Replays a case.
-fn replay(case: &[u32; 192]) {
+fn replay<W: Write>(out: &mut W, case: &[u32; 192]) -> io::Result<()> {
     match case[CODE] {
-        16 => run(case),
-        _ => write_answer(no_call()),
+        16 => run(out, case),
+        _ => write_answer(out, no_call()),
     }
 }
 
 // Replays the cases of standard input, up to its end.
-fn main() {
-    for i in 0..65536usize {
-        let case = next_case();
+fn main(rt: HostRuntime) -> io::Result<()> {
+    let alloc = rt.alloc();
+    let mut input = BufReader::new(alloc, rt.reader())?.bytes();
+    let mut out = BufWriter::new(alloc, io::writer(&rt))?;
+    for _ in 0..65536usize {
+        let case = next_case(&mut input)?;
         if case[CODE] == 0 {
-            return;
+            break;
         }
-        replay(&case);
+        replay(&mut out, &case)?;
     }
+    out.flush()
 }
