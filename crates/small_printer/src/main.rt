@@ -80,7 +80,14 @@ fn print_arena<W: Write>(out: &mut W, index: u32) -> io::Result<bool> {
         return Ok(false);
     }
     print_header(out, &header)?;
-    print_slots(out, &prev, &next, &generation, &payload, given.length as usize)?;
+    print_slots(
+        out,
+        &prev,
+        &next,
+        &generation,
+        &payload,
+        given.length as usize,
+    )?;
     out.write_all(b"\n")?;
     Ok(true)
 }
