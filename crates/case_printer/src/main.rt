@@ -13,12 +13,7 @@ fn print_slot(rt: &impl Print, new: u64, old: u32, prev: u32, next: u32) -> io::
 }
 
 // All slots of the columns, in order.
-fn print_slots(
-    rt: &impl Print,
-    prev: &[u32],
-    next: &[u32],
-    where_from: &[u32],
-) -> io::Result<()>
+fn print_slots(rt: &impl Print, prev: &[u32], next: &[u32], where_from: &[u32]) -> io::Result<()>
     requires { (length prev.now ≡ length where_from.now) × (length next.now ≡ length where_from.now) }
 {
     for s in 0..where_from.len() {
