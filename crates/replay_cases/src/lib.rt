@@ -10,7 +10,8 @@
 // Both files were made by `cargo run --release -p oracle --bin record` from the crate's own text and, where it has no answer, from the model in
 // oracle/src/model.rs; not by these programs. oracle/src/bin/record.rs says which cases it takes, and which program gets the cases of a call.
 //
-// Here are the text of a line, its parts, and the text of an answer; no exported call.
+// Here are the text of a line, its parts, and the text of an answer; no exported call. Where a read, a write or memory fails, the error is returned, and
+// the program ends with it.
 #![tactic(auto)]
 
 mod answer;
