@@ -1,24 +1,21 @@
 -- A chain laid out link by link: the loop's state is the definition's state on its way, and the definition's two tests are the code's. Assumes nothing.
-use Prim.Native.Nat.{ℕ, zero, suc, ◌+◌, ◌-◌, ◌≤◌, ◌<◌}
+use Prim.Native.Nat.{ℕ, suc, ◌+◌, ◌-◌, ◌≤◌, ◌<◌}
 use mathlib.Core.Path.{◌≡◌, refl, sym, ap, ◌∙◌}
 use mathlib.Core.Logic.{◌≢◌, ◌⊎◌, inl, inr}
 use mathlib.Core.Bool.{true, false, ◌||◌, true≢false}
-use mathlib.Core.List.{List}
 use native.Mathlib.Omega.{arith}
 use native.Mathlib.Numerals.{add-one}
 use lib.ListN.{length}
 use lib.Dec.{eqb}
 use borrow.Author.Tests.{eq-eqb, ne_eqb}
-use Rattle.definitions.specs.Columns.{at}
 use Rattle.definitions.specs.Arena.{Arena, capacity_limit, stack_length}
 use Rattle.definitions.specs.Compress.{Laying, put_at_i, lay_chain}
 use Rattle.definitions.proofs.Tests.{the_first, the_second, neither}
 use Rattle.demand3.proofs.Carried.{Room, same_stack}
 use Rattle.demand3.proofs.LayChain.{lay_over, lay_on}
-use Rattle.demand3.proofs.Loops.{Between, Within, within_few, within_free, within_turn, Turned, over, on}
+use Rattle.demand3.proofs.Loops.{within_few, within_free, within_turn, Turned, over, on}
 use Rattle.demand3.proofs.Search.{FreeBetween}
 use Rattle.canonical_exchange.specs.Lent.{Lent}
-use Rattle.canonical_layout.specs.Held.{Held}
 use Rattle.canonical_layout.specs.Steps.{InChain, LinkLaid, ChainLaid}
 use Rattle.canonical_layout.proofs.LinkInPlace.{place_left}
 

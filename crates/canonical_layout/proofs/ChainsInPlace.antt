@@ -3,16 +3,14 @@
 use Prim.Native.Nat.{ℕ, zero, suc, ◌+◌, ◌-◌, ◌≤◌, ◌<◌}
 use mathlib.Core.Path.{◌≡◌, refl, sym, ap, ◌∙◌}
 use mathlib.Core.Logic.{◌≢◌, ◌⊎◌, inl, inr}
-use mathlib.Core.Bool.{true, false}
 use mathlib.Core.List.{List}
 use native.Mathlib.Omega.{arith}
-use native.Mathlib.Numerals.{add-one, one-add}
 use lib.ListN.{length}
-use Rattle.definitions.specs.Columns.{at, slots_from}
-use Rattle.definitions.specs.Arena.{Arena, capacity_limit, stack_length, is_link}
+use Rattle.definitions.specs.Columns.{slots_from}
+use Rattle.definitions.specs.Arena.{Arena, capacity_limit, stack_length}
 use Rattle.definitions.specs.Compress.{Laying, lowest_from, start_of, lay_chain, lay_chains, laid_out}
 use Rattle.chains.proofs.Links.{Link, link_within}
-use Rattle.demand3.proofs.Carried.{Room, Carried, same_stack, carried_linked}
+use Rattle.demand3.proofs.Carried.{Carried, same_stack, carried_linked}
 use Rattle.demand3.proofs.LayChains.{lowest_is_link, lay_done, lay_next}
 use Rattle.demand3.proofs.Loops.{Between, between_start, within_begins}
 use Rattle.demand3.proofs.Search.{FreeBetween, lowest_resumes, free_before}

@@ -1,15 +1,14 @@
 -- The exchange in place is the definition's exchange of two slots, as far as links are concerned. The definition renames slots i and t in every word;
 -- the code writes only where a neighbour of the two names them. Where links name each other back that is the same: a link names t exactly if it is a
 -- neighbour of the link in t. Neighbours of each other, a free occupant and a single closed link need no case of their own. Assumes nothing.
-use Prim.Native.Nat.{ℕ, zero, suc, ◌≤◌, ◌<◌}
+use Prim.Native.Nat.{ℕ, ◌≤◌}
 use mathlib.Core.Path.{◌≡◌, refl, sym, ap, ◌∙◌}
 use mathlib.Core.Logic.{◌≢◌}
-use mathlib.Core.Bool.{Bool, true, false, not, ◌&&◌, true≢false}
+use mathlib.Core.Bool.{false, true≢false}
 use mathlib.Core.List.{List}
 use native.Mathlib.Omega.{arith}
 use native.Mathlib.Decide.{ℕ_discrete, dec_le}
 use lib.ListN.{length}
-use lib.Dec.{leb, eqb}
 use borrow.Author.Tests.{le-leb, lt-leb}
 use Rattle.definitions.specs.Columns.{at, put}
 use Rattle.definitions.specs.Arena.{Arena, stack_length, allocated, is_link}

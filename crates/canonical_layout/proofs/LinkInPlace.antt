@@ -1,14 +1,13 @@
 -- One link put in its place: the code's exchange, or nothing where it is there already, is the definition's step. Assumes nothing.
 use Prim.Native.Nat.{ℕ, zero, suc, ◌+◌, ◌≤◌, ◌<◌}
 use mathlib.Core.Path.{◌≡◌, refl, sym, ap, ◌∙◌}
-use mathlib.Core.Logic.{◌≢◌}
 use mathlib.Core.List.{List, [], ◌∷◌, map}
 use native.Mathlib.Omega.{arith}
 use native.Mathlib.Numerals.{add-one}
 use native.Mathlib.Decide.{ℕ_discrete}
-use lib.ListN.{length, get_or, set, take, drop, take-append-drop}
+use lib.ListN.{length, get_or, set, take, take-append-drop}
 use Rattle.definitions.specs.Columns.{at, put}
-use Rattle.definitions.specs.Arena.{Arena, arena, capacity_limit, stack_length}
+use Rattle.definitions.specs.Arena.{Arena, capacity_limit, stack_length}
 use Rattle.definitions.specs.Compress.{Laying, exchanged, exchange_words, exchange_links, exchange_slots, put_at_i}
 use Rattle.definitions.proofs.Columns.{at_suc}
 use Rattle.chains.proofs.Links.{Link, DoublyLinked}

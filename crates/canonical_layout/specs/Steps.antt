@@ -3,7 +3,7 @@
 use Rattle.std.specs.Prelude.{ℕ, suc, ◌≤◌, ◌<◌, ◌≡◌, ◌⊎◌, List, length}
 use Rattle.definitions.specs.Columns.{at, slots_from}
 use Rattle.definitions.specs.Arena.{Arena, capacity_limit, stack_length}
-use Rattle.definitions.specs.Compress.{Laying, put_at_i, lowest_from, lay_chain, laid_out}
+use Rattle.definitions.specs.Compress.{Laying, put_at_i, lowest_from, laid_out}
 use Rattle.chains.proofs.Links.{DoublyLinked}
 use Rattle.demand3.proofs.Carried.{Room}
 use Rattle.demand3.proofs.Loops.{Between, Within}

@@ -9,7 +9,7 @@ use lib.ListN.{length, get_or, take, drop, take-append-drop}
 use lib.Dec.{eqb}
 use borrow.Author.Tests.{ne_eqb, eqb-true}
 use Rattle.definitions.specs.Columns.{written}
-use Rattle.definitions.specs.Arena.{Arena, stack_length, is_link}
+use Rattle.definitions.specs.Arena.{Arena, is_link}
 use Rattle.definitions.specs.Remove.{removed, removed_all, drain_items, overflow_item}
 use Rattle.definitions.proofs.Count.{in_here}
 use Rattle.definitions.proofs.Tests.{by_test}

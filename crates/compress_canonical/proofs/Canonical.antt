@@ -3,17 +3,17 @@
 use Prim.Native.Nat.{ℕ, zero, suc, ◌+◌, ◌-◌, ◌≤◌, ◌<◌}
 use mathlib.Core.Path.{◌≡◌, refl, sym, ap, ◌∙◌}
 use mathlib.Core.Logic.{◌≢◌}
-use mathlib.Core.Bool.{Bool, true, false}
-use mathlib.Core.List.{List, [], ◌∷◌, ◌++◌, append_assoc}
+use mathlib.Core.Bool.{Bool, false}
+use mathlib.Core.List.{List, [], ◌++◌, append_assoc}
 use native.Mathlib.Omega.{arith}
 use native.Mathlib.Decide.{dec_le}
-use lib.ListN.{length, get_or, set, take, drop, replicate, length-append, length-take, length-replicate, length-set, take-append-drop}
+use lib.ListN.{length, get_or, take, drop, replicate, length-append, length-take, length-replicate, length-set, take-append-drop}
 use lib.Seq.{get_or-set_same, get_or-set_other, set-get_or, length-take-le}
 use Rattle.definitions.specs.Columns.{at, settled}
-use Rattle.definitions.specs.Arena.{Arena, arena, capacity_limit, capacity, header_words, stack_length, link_count, current, with_stack_length, with_link_count, with_root, with_current, is_link}
+use Rattle.definitions.specs.Arena.{Arena, arena, capacity_limit, capacity, stack_length, link_count, with_stack_length, with_link_count, with_root, with_current, is_link}
 use Rattle.definitions.specs.Check.{WellFormed, verdict}
-use Rattle.definitions.specs.Reply.{Reply, reply}
-use Rattle.definitions.specs.Compress.{Laying, laid_out, compress_generation, compress_number, compressed_header, canonical_arena, compress_canonical}
+use Rattle.definitions.specs.Reply.{reply}
+use Rattle.definitions.specs.Compress.{Laying, laid_out, compress_generation, compressed_header, canonical_arena, compress_canonical}
 use Rattle.definitions.proofs.Tests.{by_test, not_eq, not_ne}
 use Rattle.definitions.proofs.Slots.{links_and_free}
 use Rattle.definitions.proofs.Parts.{at_take, at_append_left, at_append_right, same_words}
@@ -25,9 +25,9 @@ use Rattle.demand3.proofs.Loops.{between_end, end_links, end_only}
 use Rattle.base_freelist.specs.Popped.{popped}
 use Rattle.base_freelist.proofs.Settled.{settled_over}
 use Rattle.compress_moves.specs.Moves.{Renewed}
-use Rattle.canonical_exchange.specs.Lent.{Lent, lent, front}
+use Rattle.canonical_exchange.specs.Lent.{Lent, front}
 use Rattle.canonical_layout.specs.Held.{Held}
-use Rattle.canonical_layout.specs.Steps.{Layable, Stacked, LaidIn}
+use Rattle.canonical_layout.specs.Steps.{Stacked, LaidIn}
 use Rattle.compress_canonical.specs.Shrunk.{shrunk, Shrinkable}
 
 at_zeros : (k s : ℕ) → at (replicate k 0) s ≡ 0

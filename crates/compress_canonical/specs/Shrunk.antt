@@ -1,5 +1,5 @@
 -- What is left once the links of an arena stand in its first slots.
-use Rattle.std.specs.Prelude.{ℕ, ◌≤◌, ◌≡◌, length, replicate}
+use Rattle.std.specs.Prelude.{◌≤◌, ◌≡◌, length, replicate}
 use Rattle.definitions.specs.Columns.{settled}
 use Rattle.definitions.specs.Arena.{Arena, arena, header_words, stack_length, link_count, current, with_stack_length, with_root}
 use Rattle.base_freelist.specs.Popped.{popped}

@@ -1,18 +1,18 @@
 -- Laws of moving the words of the links to the front of a column, one after the other, each from further back. Assumes nothing.
-use Prim.Native.Nat.{ℕ, zero, suc, ◌+◌, ◌-◌, ◌*◌, ◌≤◌, ◌<◌}
+use Prim.Native.Nat.{ℕ, zero, suc, ◌+◌, ◌*◌, ◌≤◌, ◌<◌}
 use mathlib.Core.Path.{◌≡◌, refl, sym, ap, ◌∙◌}
-use mathlib.Core.Bool.{Bool, true, false}
+use mathlib.Core.Bool.{Bool, true}
 use mathlib.Core.List.{List, [], ◌∷◌, ◌++◌, map, map-append}
 use native.Mathlib.Omega.{arith}
 use native.Mathlib.Numerals.{add-one}
-use lib.ListN.{length, get_or, set, take, drop, length-map, length-set, take-append-drop}
+use lib.ListN.{length, get_or, set, take, length-map, length-set}
 use lib.Seq.{take-suc, take_all, length-take-le}
 use Rattle.definitions.specs.Columns.{at, slots_from, keep, written}
 use Rattle.definitions.specs.Arena.{allocated, link_slots}
 use Rattle.definitions.proofs.Tests.{by_test}
 use Rattle.definitions.proofs.Columns.{at_suc}
-use Rattle.definitions.proofs.Slots.{allocated_within, length_slots, links_and_free}
-use Rattle.definitions.proofs.Count.{In, in_here, in_there, keep_yes, keep_no, only_links}
+use Rattle.definitions.proofs.Slots.{allocated_within, links_and_free}
+use Rattle.definitions.proofs.Count.{In, in_here, in_there, only_links}
 use Rattle.definitions.proofs.Parts.{at_one, at_cons, in_at}
 use Rattle.definitions.proofs.Written.{written_none, written_more, written_behind, written_parts}
 use Rattle.compress_moves.specs.Moves.{new_name, carried, Full, Movable}

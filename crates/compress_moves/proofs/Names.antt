@@ -1,11 +1,11 @@
 -- Laws of the numbers: which slot's word is which, that they show the same links, and that nothing moves where no slot is free. Assumes nothing.
-use Prim.Native.Nat.{ℕ, zero, suc, ◌+◌, ◌-◌, ◌≤◌, ◌<◌}
+use Prim.Native.Nat.{ℕ, zero, suc, ◌≤◌}
 use mathlib.Core.Path.{◌≡◌, refl, sym, ap, ◌∙◌}
-use mathlib.Core.Bool.{Bool, true, false}
-use mathlib.Core.List.{List, [], ◌∷◌, ◌++◌, map}
+use mathlib.Core.Bool.{Bool, true}
+use mathlib.Core.List.{List, [], ◌∷◌, map}
 use native.Mathlib.Omega.{arith}
 use lib.ListN.{length, length-map}
-use Rattle.definitions.specs.Columns.{at, slots_from, keep, written}
+use Rattle.definitions.specs.Columns.{at, slots_from, keep}
 use Rattle.definitions.specs.Arena.{allocated, link_slots}
 use Rattle.definitions.specs.Compress.{place}
 use Rattle.definitions.proofs.Tests.{by_test}

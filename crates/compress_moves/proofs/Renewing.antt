@@ -1,7 +1,7 @@
 -- The generation is renewed in one of three ways: set to 2, left alone, raised. Assumes nothing.
 use Prim.Native.Nat.{ℕ}
-use mathlib.Core.Path.{◌≡◌, refl, sym, ap, ◌∙◌}
-use mathlib.Core.Bool.{Bool, true, false, cond, not}
+use mathlib.Core.Path.{◌≡◌, refl, sym, ap}
+use mathlib.Core.Bool.{true, false}
 use mathlib.Core.List.{List, []}
 use lib.Seq.{set-get_or}
 use borrow.Author.Tests.{eq-eqb, ne_eqb}

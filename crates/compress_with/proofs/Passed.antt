@@ -1,7 +1,7 @@
 -- An arena that passed the check can be compressed, and its parts make the definition's reply. Assumes nothing.
 use Prim.Native.Nat.{ℕ, ◌*◌, ◌≤◌, ◌<◌}
 use mathlib.Core.Path.{◌≡◌, refl, sym, ap, ◌∙◌}
-use mathlib.Core.Bool.{Bool, true, false}
+use mathlib.Core.Bool.{Bool}
 use mathlib.Core.List.{List, []}
 use native.Mathlib.Omega.{arith}
 use native.Mathlib.Decide.{ℕ_discrete}
@@ -9,10 +9,10 @@ use lib.ListN.{length, get_or, set}
 use lib.Seq.{set-get_or, get_or-set_same, get_or-set_other}
 use borrow.Author.Tests.{lt-ltb, le-ltb}
 use Rattle.definitions.specs.Columns.{at, written}
-use Rattle.definitions.specs.Arena.{Arena, arena, capacity_limit, header_words, stack_length, link_count, with_stack_length, with_link_count, with_root, with_current, link_slots, is_link}
-use Rattle.definitions.specs.Check.{verdict, WellFormed, Neighbour}
+use Rattle.definitions.specs.Arena.{Arena, arena, capacity_limit, header_words, stack_length, link_count, with_stack_length, with_link_count, with_root, with_current, link_slots}
+use Rattle.definitions.specs.Check.{verdict, Neighbour}
 use Rattle.definitions.specs.Reply.{reply}
-use Rattle.definitions.specs.Compress.{compress_generation, compress_number, compressed_header, relocate, moves_of, compress_with}
+use Rattle.definitions.specs.Compress.{compress_generation, compressed_header, relocate, moves_of, compress_with}
 use Rattle.definitions.proofs.Slots.{allocated_within}
 use Rattle.well_formed.proofs.WellFormed.{well_formed_if_passes}
 use Rattle.compress_moves.specs.Moves.{Renewed, Compressible}

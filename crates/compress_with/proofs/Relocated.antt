@@ -1,18 +1,18 @@
 -- Links that are numbered, moved down and stamped with the new generation, with the slots behind them popped, are the definition's `relocate`.
 -- Assumes nothing.
-use Prim.Native.Nat.{ℕ, zero, suc, ◌+◌, ◌-◌, ◌*◌, ◌≤◌, ◌<◌}
+use Prim.Native.Nat.{ℕ, zero, suc, ◌*◌, ◌≤◌, ◌<◌}
 use mathlib.Core.Path.{◌≡◌, refl, sym, ap, ◌∙◌}
-use mathlib.Core.Bool.{Bool, true, false}
+use mathlib.Core.Bool.{true}
 use mathlib.Core.List.{List, [], ◌∷◌, ◌++◌, map}
 use native.Mathlib.Omega.{arith}
-use lib.ListN.{length, get_or, take, drop, replicate, length-map, length-replicate}
+use lib.ListN.{length, get_or, drop, replicate, length-map, length-replicate}
 use lib.Seq.{take-append_seam}
 use Rattle.definitions.specs.Columns.{at, slots_from, settled, written}
 use Rattle.definitions.specs.Arena.{Arena, arena, allocated, link_slots}
 use Rattle.definitions.specs.Compress.{place, moves_of, compressed_header, relocate}
 use Rattle.definitions.proofs.Columns.{at_suc}
 use Rattle.definitions.proofs.Slots.{links_and_free}
-use Rattle.definitions.proofs.Count.{In, only_links}
+use Rattle.definitions.proofs.Count.{only_links}
 use Rattle.definitions.proofs.Written.{written_rest, written_reads}
 use Rattle.base_freelist.specs.Popped.{popped}
 use Rattle.base_freelist.proofs.Settled.{settled_over}

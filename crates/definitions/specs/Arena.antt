@@ -1,6 +1,6 @@
 -- The lent arena: columns prev, next, generation and payload, and the header. The word of slot s has index s − 1 (REFERENCE, Arena).
-use Rattle.std.specs.Prelude.{ℕ, suc, ◌+◌, ◌≤◌, Bool, true, false, cond, not, ◌&&◌, List, length, get_or, set, eqb, leb}
-use Rattle.definitions.specs.Columns.{at, put, keep, slots_from}
+use Rattle.std.specs.Prelude.{ℕ, Bool, not, ◌&&◌, List, length, get_or, set, eqb, leb}
+use Rattle.definitions.specs.Columns.{at, keep, slots_from}
 
 pub record Arena : Type 0 where
   pub prev : List ℕ

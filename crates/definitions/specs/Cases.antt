@@ -1,10 +1,10 @@
 -- The marked cases K1 to K12 as one table over the definitions: an arena, a list of calls, their answers and the arena left
 -- (REFERENCE, Marked cases).
-use Rattle.std.specs.Prelude.{ℕ, ◌≡◌, refl, Bool, true, false, List, [], ◌∷◌, ◌++◌, map}
+use Rattle.std.specs.Prelude.{ℕ, ◌≡◌, refl, true, false, List, [], ◌∷◌, ◌++◌, map}
 use Rattle.definitions.specs.Arena.{Arena, arena, capacity_limit, largest_generation, allocated, link_slots, free_slots}
 use Rattle.definitions.specs.Reply.{Reply}
 use Rattle.definitions.specs.Read.{pointer, stale, get_link, get_link_no_gen, neighbors, are_neighbors}
-use Rattle.definitions.specs.Walk.{walk, walk_start, onward, step, walk_step, walked}
+use Rattle.definitions.specs.Walk.{walk_start, onward, step, walk_step, walked}
 use Rattle.definitions.specs.Calls.{Call, Made, GetLink, GetLinkNoGen, AreNeighbors, BreakPrev, BreakNext, SetGeneration, IncGeneration, CanonicalizeFreelist, Run, CompressWith, Check, WalkStart, WalkStep, DueCount, DueEvents, Connect, ExchangeNext, Remove, Drain, CompressCanonical, replies_to, arena_after, accepted, reply_to}
 use Rattle.definitions.specs.Columns.{at, put, first_or, last_or, slots_from, keep, written, settled}
 use Rattle.definitions.specs.Check.{misshapen, freelist_walk, names_back, neighbours_fine, all_fine, counts_of, verdict}

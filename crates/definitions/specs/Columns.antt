@@ -1,5 +1,5 @@
 -- Words of a column by slot, and lists of slots. The word of slot s has index s − 1 (REFERENCE, Arena).
-use Rattle.std.specs.Prelude.{ℕ, zero, suc, ◌+◌, ◌-◌, ◌≡◌, Bool, true, false, cond, List, [], ◌∷◌, ◌++◌, length, get_or, set, drop, replicate, eqb}
+use Rattle.std.specs.Prelude.{ℕ, zero, suc, ◌+◌, ◌-◌, ◌≡◌, Bool, cond, List, [], ◌∷◌, ◌++◌, length, get_or, set, drop, replicate, eqb}
 
 -- the word of column xs at slot s; 0 for slot 0 and for a slot that the column does not reach
 unfoldable pub at : List ℕ → ℕ → ℕ

@@ -1,5 +1,5 @@
 -- The two compressions of an arena that passed the check (REFERENCE, Compression).
-use Rattle.std.specs.Prelude.{ℕ, zero, suc, ◌+◌, ◌-◌, ◌*◌, Bool, true, false, cond, not, ◌||◌, List, [], ◌∷◌, ◌++◌, map, length, take, drop, replicate, eqb, ltb}
+use Rattle.std.specs.Prelude.{ℕ, zero, suc, ◌-◌, ◌*◌, Bool, true, false, cond, not, ◌||◌, List, [], ◌∷◌, ◌++◌, map, length, take, drop, replicate, eqb, ltb}
 use Rattle.definitions.specs.Columns.{at, put, first_or, slots_from, keep, written, settled}
 use Rattle.definitions.specs.Arena.{
   Arena,

@@ -1,5 +1,5 @@
 -- Removal, drain, and the freelist put in order, in an arena that passed the check.
-use Rattle.std.specs.Prelude.{ℕ, ◌+◌, ◌-◌, ◌*◌, Bool, true, false, cond, List, [], ◌∷◌, ◌++◌, length, take, eqb, ltb}
+use Rattle.std.specs.Prelude.{ℕ, ◌+◌, ◌-◌, ◌*◌, cond, List, [], ◌∷◌, length, take, eqb, ltb}
 use Rattle.definitions.specs.Columns.{at, put, first_or, last_or, written, settled}
 use Rattle.definitions.specs.Arena.{
   Arena,

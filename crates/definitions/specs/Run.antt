@@ -1,5 +1,5 @@
 -- A run of edits on an arena that passed the check (REFERENCE, Run).
-use Rattle.std.specs.Prelude.{ℕ, zero, suc, ◌+◌, ◌*◌, ◌/◌, ◌%◌, Bool, cond, not, List, [], ◌∷◌, map, length, get_or, eqb, ltb}
+use Rattle.std.specs.Prelude.{ℕ, ◌+◌, ◌*◌, ◌/◌, ◌%◌, cond, not, List, [], ◌∷◌, map, length, get_or, eqb, ltb}
 use Rattle.definitions.specs.Columns.{slots_from, written}
 use Rattle.definitions.specs.Arena.{Arena}
 use Rattle.definitions.specs.Reply.{Reply, reply, refusal}

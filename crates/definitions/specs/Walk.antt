@@ -1,5 +1,5 @@
 -- The walk along a chain (`ChainPtrAdvancer`) in an arena that passed the check (REFERENCE, Walk).
-use Rattle.std.specs.Prelude.{ℕ, zero, suc, ◌-◌, Bool, true, false, cond, not, List, [], ◌∷◌, get_or, eqb}
+use Rattle.std.specs.Prelude.{ℕ, zero, suc, ◌-◌, cond, not, List, [], ◌∷◌, get_or, eqb}
 use Rattle.definitions.specs.Columns.{at}
 use Rattle.definitions.specs.Arena.{Arena, link_count, is_link}
 use Rattle.definitions.specs.Reply.{Reply, reply, refusal}

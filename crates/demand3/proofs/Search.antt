@@ -6,7 +6,7 @@ use mathlib.Core.Bool.{true, false}
 use native.Mathlib.Omega.{arith}
 use native.Mathlib.Nat.{add-zero}
 use native.Mathlib.Decide.{dec_le}
-use Rattle.definitions.specs.Columns.{at, first_or, slots_from, keep}
+use Rattle.definitions.specs.Columns.{first_or, slots_from, keep}
 use Rattle.definitions.specs.Arena.{Arena, stack_length, is_link}
 use Rattle.definitions.specs.Compress.{lowest_from}
 use Rattle.definitions.proofs.Tests.{by_test}

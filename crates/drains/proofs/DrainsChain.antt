@@ -1,7 +1,7 @@
 -- A drain takes the links of p's chain and no other: `drain_takes_the_chain`, and of the public call `done_drain_takes_the_chain`. The walk from p
 -- lists the chain that p is on, each link once; a chain holds all neighbours of its links, so that no link outside it names one that is removed.
 -- Assumes nothing.
-use Prim.Native.Nat.{ℕ, ◌+◌, ◌*◌, ◌≤◌, ◌<◌}
+use Prim.Native.Nat.{ℕ, ◌*◌, ◌≤◌, ◌<◌}
 use mathlib.Core.Path.{◌≡◌, refl, sym, ◌∙◌}
 use mathlib.Core.Bool.{true, false}
 use mathlib.Core.List.{List, [], ◌∷◌, ◌++◌, reverse}

@@ -1,4 +1,5 @@
 // The words of a lent arena's header, by name (REFERENCE, Arena).
+#![tactic(auto)]
 
 // How many words the header is.
 pub const HEADER_WORDS: usize = 4;

@@ -4,7 +4,6 @@ use mathlib.Core.Path.{◌≡◌, refl}
 use mathlib.Core.Bool.{false}
 use mathlib.Core.List.{List, [], ◌∷◌}
 use native.Mathlib.Omega.{arith}
-use Rattle.definitions.specs.Columns.{at}
 use Rattle.definitions.specs.Arena.{Arena, capacity, current}
 use Rattle.definitions.specs.Check.{WellFormed, verdict}
 use Rattle.definitions.proofs.Tests.{by_test}

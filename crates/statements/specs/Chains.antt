@@ -1,6 +1,6 @@
 -- What demand 3 speaks of: chains of slots, listings, renamings, pieces and chains of payloads (REFERENCE, Chains;
 -- REFERENCE, What canonical compression keeps).
-use Rattle.std.specs.Prelude.{ℕ, zero, suc, ◌≤◌, ◌<◌, ◌≡◌, Bool, true, false, cond, List, [], ◌∷◌, ◌++◌, map, length, get_or, eqb}
+use Rattle.std.specs.Prelude.{ℕ, suc, ◌≤◌, ◌<◌, ◌≡◌, true, cond, List, [], ◌∷◌, ◌++◌, map, length, get_or, eqb}
 use Rattle.definitions.specs.Columns.{at, count, first_or, last_or, Linked, slots_from}
 use Rattle.definitions.specs.Arena.{Arena, is_link}
 

@@ -1,6 +1,6 @@
 -- Demand 3, as one statement about the very definition that the exported call cites, Calls.reply_to at CompressCanonical
 -- (REFERENCE, What canonical compression keeps).
-use Rattle.std.specs.Prelude.{ℕ, zero, suc, ◌+◌, ◌≤◌, ◌<◌, ◌≡◌, ◌⊎◌, ◌↔◌, Bool, true, List, [], ◌∷◌, map, length, take}
+use Rattle.std.specs.Prelude.{ℕ, suc, ◌+◌, ◌≤◌, ◌<◌, ◌≡◌, ◌⊎◌, ◌↔◌, Bool, true, List, [], ◌∷◌, map, length, take}
 use Rattle.definitions.specs.Columns.{at, last_or, slots_from}
 use Rattle.definitions.specs.Arena.{Arena, capacity, stack_length, link_count, root, is_link}
 use Rattle.statements.specs.Chains.{Chain, opened, IsChain, Like, nth, Listing, OnOneChain, Renaming, pieces, replaced, HoldTheSame, Alike, Paired}

@@ -1,9 +1,9 @@
 -- Walks over any arena, with any state words: a step answers a link or none (`step_answers_links`), and after none it answers none ever after
 -- (`none_after_none`). A walk that was started answers its slots, and then none ever after (`walk_then_none`). Assumes nothing.
-use Prim.Native.Nat.{ℕ, zero, suc, ◌+◌, ◌-◌, ◌≤◌, ◌<◌}
+use Prim.Native.Nat.{ℕ, zero, suc, ◌+◌, ◌-◌, ◌≤◌}
 use mathlib.Core.Path.{◌≡◌, refl, sym, ap, ◌∙◌}
 use mathlib.Core.Logic.{◌⊎◌, inl, inr}
-use mathlib.Core.Bool.{Bool, true, false, cond, not}
+use mathlib.Core.Bool.{false, not}
 use mathlib.Core.List.{List, [], ◌∷◌, ◌++◌}
 use native.Mathlib.Omega.{arith}
 use native.Mathlib.Nat.{zero-add, suc-add}
@@ -11,7 +11,7 @@ use native.Mathlib.Decide.{ℕ_discrete}
 use lib.ListN.{length, replicate, get_or}
 use lib.Dec.{eqb}
 use borrow.Author.Tests.{ne_eqb}
-use Rattle.definitions.specs.Columns.{at, count}
+use Rattle.definitions.specs.Columns.{at}
 use Rattle.definitions.specs.Arena.{Arena, stack_length, link_count, is_link}
 use Rattle.definitions.specs.Read.{Pointer, pointer}
 use Rattle.definitions.specs.Walk.{Walk, walk, Stepped, none, onward, step, start_at, walked, walk_from}

@@ -1,8 +1,5 @@
-use Prim.Native.Nat.{◌≤◌, ◌-◌}
-use mathlib.Core.Path.{◌≡◌, sym, ap, ◌∙◌}
-use mathlib.Core.Logic.{⊎_elim}
+use mathlib.Core.Path.{sym, ap, ◌∙◌}
 use native.Mathlib.Omega.{arith}
-use borrow.Author.Rules.{rules}
 use Rattle.base_arena.proofs.Counting.{links_to, links_none, links_all, links_more, links_same}
 use Rattle.base_arena.proofs.allocated_slots.Goals as goal
 use Rattle.base_arena.proofs.allocated_slots.Goals.{else-generation-i-ne0, then-generation-i-ne0}

@@ -1,11 +1,8 @@
 -- `base_arena::allocated_slots` meets its contract. The loop's invariant: the count is that of the links among the first i slots. The measure is
 -- what is left of the n slots. Assumes nothing.
 use Prim.Native.Nat.{◌≤◌, ◌-◌}
-use mathlib.Core.Path.{◌≡◌, sym, ap, ◌∙◌}
-use mathlib.Core.Logic.{⊎_elim}
-use native.Mathlib.Omega.{arith}
-use borrow.Author.Rules.{rules}
-use Rattle.base_arena.proofs.Counting.{links_to, links_none, links_all, links_more, links_same}
+use mathlib.Core.Path.{◌≡◌}
+use Rattle.base_arena.proofs.Counting.{links_to}
 use Rattle.base_arena.proofs.allocated_slots.Given as goal
 
 abbrev pub invariant-loop-i : goal.invariant-loop-i

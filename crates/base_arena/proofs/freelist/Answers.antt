@@ -1,11 +1,8 @@
-use Prim.Native.Nat.{◌+◌, ◌-◌, ◌≤◌}
-use mathlib.Core.Path.{◌≡◌, ◌∙◌}
+use mathlib.Core.Path.{◌∙◌}
 use native.Mathlib.Omega.{arith}
-use borrow.Author.Rules.{rules}
 use mir.Facts.{Fits-widen}
-use Rattle.definitions.specs.Check.{freelist_walk}
 use Rattle.definitions.proofs.Tests.{tests}
-use Rattle.base_arena.proofs.Walk.{walk_after, walk_starts, walk_ends, visit_answers}
+use Rattle.base_arena.proofs.Walk.{walk_starts, walk_ends, visit_answers}
 use Rattle.base_arena.proofs.freelist.Goals as goal
 
 pub loop-visited-init : goal.loop-visited-init

@@ -1,13 +1,9 @@
 -- `base_arena::freelist` meets its contract. The loop's invariant: the walk that is left, at this slot after so many visits, answers what the
 -- whole walk answers. A turn is one visit of the definition. The measure is the visits left. Assumes nothing.
 use Prim.Native.Nat.{◌+◌, ◌-◌, ◌≤◌}
-use mathlib.Core.Path.{◌≡◌, ◌∙◌}
-use native.Mathlib.Omega.{arith}
-use borrow.Author.Rules.{rules}
-use mir.Facts.{Fits-widen}
+use mathlib.Core.Path.{◌≡◌}
 use Rattle.definitions.specs.Check.{freelist_walk}
-use Rattle.definitions.proofs.Tests.{tests}
-use Rattle.base_arena.proofs.Walk.{walk_after, walk_starts, walk_ends, visit_answers}
+use Rattle.base_arena.proofs.Walk.{walk_after}
 use Rattle.base_arena.proofs.freelist.Given as goal
 
 abbrev pub invariant-loop-visited : goal.invariant-loop-visited

@@ -1,14 +1,8 @@
-use Prim.Native.Nat.{ℕ, ◌+◌, ◌-◌, ◌≤◌}
-use mathlib.Core.Path.{◌≡◌, refl, ◌∙◌}
-use mathlib.Core.List.{List}
+use mathlib.Core.Path.{◌∙◌}
 use native.Mathlib.Omega.{arith}
-use lib.ListN.{length}
-use borrow.Author.Rules.{rules}
 use mir.Facts.{Fits-widen}
-use Rattle.definitions.specs.Arena.{free_slots}
-use Rattle.definitions.specs.Check.{freelist_walk}
 use Rattle.definitions.proofs.Tests.{tests}
-use Rattle.base_arena.proofs.Walk.{walk_after, walk_starts, walk_ends, free_visit_answers}
+use Rattle.base_arena.proofs.Walk.{walk_starts, walk_ends, free_visit_answers}
 use Rattle.base_arena.proofs.freelist_of_all.Goals as goal
 
 pub loop-visited-init : goal.loop-visited-init

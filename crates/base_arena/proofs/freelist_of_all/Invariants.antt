@@ -1,16 +1,12 @@
 -- `base_arena::freelist_of_all` meets its contract. The loop's invariant: whatever the generations, if they leave every slot free, the walk that is left answers what
 -- the whole walk answers. A turn is one visit of the definition, which meets no link. The measure is the visits left. Assumes nothing.
 use Prim.Native.Nat.{ℕ, ◌+◌, ◌-◌, ◌≤◌}
-use mathlib.Core.Path.{◌≡◌, refl, ◌∙◌}
+use mathlib.Core.Path.{◌≡◌}
 use mathlib.Core.List.{List}
-use native.Mathlib.Omega.{arith}
 use lib.ListN.{length}
-use borrow.Author.Rules.{rules}
-use mir.Facts.{Fits-widen}
 use Rattle.definitions.specs.Arena.{free_slots}
 use Rattle.definitions.specs.Check.{freelist_walk}
-use Rattle.definitions.proofs.Tests.{tests}
-use Rattle.base_arena.proofs.Walk.{walk_after, walk_starts, walk_ends, free_visit_answers}
+use Rattle.base_arena.proofs.Walk.{walk_after}
 use Rattle.base_arena.proofs.freelist_of_all.Given as goal
 
 abbrev pub invariant-loop-visited : goal.invariant-loop-visited

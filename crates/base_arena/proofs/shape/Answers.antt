@@ -1,11 +1,10 @@
 -- `base_arena::shape` meets its contract. Its tests are those of the definition, in their order; the first is `is_misshapen`. Assumes nothing.
 use mathlib.Core.Path.{sym, ◌∙◌}
 use native.Mathlib.Omega.{arith}
-use borrow.Author.Rules.{rules}
 use mir.Facts.{Fits-widen}
-use Rattle.definitions.specs.Arena.{Arena, arena, capacity_limit}
+use Rattle.definitions.specs.Arena.{capacity_limit}
 use Rattle.definitions.proofs.Tests.{tests}
-use Rattle.definitions.proofs.Shaped.{Sized, sized}
+use Rattle.definitions.proofs.Shaped.{sized}
 use Rattle.base_arena.specs.Shape.{shape_of}
 use Rattle.base_arena.proofs.shape.Goals as goal
 

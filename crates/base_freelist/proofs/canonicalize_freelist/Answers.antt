@@ -1,7 +1,6 @@
 -- `base_freelist::canonicalize_freelist` meets its contract: the stack ends with the highest link, the free slots below it are listed, and the
 -- slots above it are popped. The check's shape gives every bound. Assumes nothing.
 use native.Mathlib.Omega.{arith}
-use borrow.Author.Rules.{rules}
 use lib.ListN.{length-set}
 use Rattle.definitions.proofs.Shaped.{shaped}
 use Rattle.base_freelist.proofs.Rising.{ends_within}

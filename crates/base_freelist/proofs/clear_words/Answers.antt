@@ -1,6 +1,4 @@
-use Prim.Native.Nat.{◌-◌}
-use borrow.Author.Rules.{rules}
-use Rattle.base_freelist.proofs.Settled.{Clearing, clearing_starts, clearing_goes_on, cleared}
+use Rattle.base_freelist.proofs.Settled.{clearing_starts, clearing_goes_on, cleared}
 use Rattle.base_freelist.proofs.clear_words.Goals as goal
 
 pub loop-i-init : goal.loop-i-init

@@ -1,8 +1,7 @@
 -- `base_freelist::clear_words` meets its contract. The loop's invariant: the column is settled up to slot i, and the measure is what is left
 -- to clear. Assumes nothing.
 use Prim.Native.Nat.{◌-◌}
-use borrow.Author.Rules.{rules}
-use Rattle.base_freelist.proofs.Settled.{Clearing, clearing_starts, clearing_goes_on, cleared}
+use Rattle.base_freelist.proofs.Settled.{Clearing}
 use Rattle.base_freelist.proofs.clear_words.Given as goal
 
 abbrev pub invariant-loop-i : goal.invariant-loop-i

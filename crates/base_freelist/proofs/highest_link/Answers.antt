@@ -1,9 +1,5 @@
-use Prim.Native.Nat.{◌≤◌}
-use mathlib.Core.Path.{◌≡◌, refl}
+use mathlib.Core.Path.{refl}
 use native.Mathlib.Omega.{arith}
-use borrow.Author.Rules.{rules}
-use Rattle.definitions.specs.Columns.{last_or}
-use Rattle.definitions.specs.Arena.{link_slots}
 use Rattle.base_freelist.proofs.Rising.{highest_here, highest_below, highest_none}
 use Rattle.base_freelist.proofs.highest_link.Goals as goal
 

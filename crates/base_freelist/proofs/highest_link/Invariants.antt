@@ -1,12 +1,9 @@
 -- `base_freelist::highest_link` meets its contract. The loop's invariant: the highest link up to slot m is the highest link of the stack. The
 -- measure is m. Assumes nothing.
 use Prim.Native.Nat.{◌≤◌}
-use mathlib.Core.Path.{◌≡◌, refl}
-use native.Mathlib.Omega.{arith}
-use borrow.Author.Rules.{rules}
+use mathlib.Core.Path.{◌≡◌}
 use Rattle.definitions.specs.Columns.{last_or}
 use Rattle.definitions.specs.Arena.{link_slots}
-use Rattle.base_freelist.proofs.Rising.{highest_here, highest_below, highest_none}
 use Rattle.base_freelist.proofs.highest_link.Given as goal
 
 abbrev pub invariant-loop-m : goal.invariant-loop-m

@@ -1,6 +1,5 @@
 -- `base_freelist::inc_generation` meets its contract, by what `generational_inc` answers. Assumes nothing.
 use mathlib.Core.Path.{refl}
-use borrow.Author.Rules.{rules}
 use Rattle.definitions.specs.Edit.{inc_generation}
 use Rattle.base_freelist.proofs.inc_generation.Goals as goal
 

@@ -1,8 +1,6 @@
 -- `base_freelist::relist` meets its contract. The loop's invariant: the free slots above slot i are listed in rising order, and `earliest_free`
 -- is the first of them, 0 where there is none. The measure is i. Assumes nothing.
-use mathlib.Core.Logic.{⊎_elim}
-use borrow.Author.Rules.{rules}
-use Rattle.base_freelist.proofs.Threaded.{Relisting, relisting_starts, relisting_passes, relisting_first, relisting_next, relisted}
+use Rattle.base_freelist.proofs.Threaded.{Relisting}
 use Rattle.base_freelist.proofs.relist.Given as goal
 
 abbrev pub invariant-loop-i : goal.invariant-loop-i

@@ -1,5 +1,4 @@
 -- `base_freelist::set_generation` meets its contract: the definition's one test is the code's. Assumes nothing.
-use borrow.Author.Rules.{rules}
 use Rattle.definitions.specs.Edit.{set_generation}
 use Rattle.definitions.proofs.Tests.{tests}
 use Rattle.base_freelist.proofs.set_generation.Goals as goal

@@ -1,7 +1,6 @@
 -- `base_insertion::count_insertion` meets its contract. One test, whether there is a root: then it is taken, else the stack grows. Assumes nothing.
 use lib.ListN.{length-set}
 use native.Mathlib.Omega.{arith}
-use borrow.Author.Rules.{rules}
 use Rattle.base_insertion.proofs.Inserting.{stack_grows, root_taken}
 use Rattle.base_insertion.proofs.count_insertion.Goals as goal
 

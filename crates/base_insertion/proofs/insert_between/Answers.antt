@@ -1,6 +1,5 @@
 -- `base_insertion::insert_between` meets its contract. The header is written while the next column is as it was, then each column at the new slot and at the
 -- neighbours. Assumes nothing.
-use borrow.Author.Rules.{rules}
 use Rattle.base_insertion.proofs.Inserting.{all_written}
 use Rattle.base_insertion.proofs.insert_between.Goals as goal
 

@@ -1,6 +1,5 @@
 -- `base_insertion::new_slot` meets its contract: its two tests are those of the definition. Assumes nothing.
 use mathlib.Core.Path.{refl}
-use borrow.Author.Rules.{rules}
 use borrow.Author.Tests.{eq-eqb, ne_eqb}
 use Rattle.base_insertion.proofs.new_slot.Goals as goal
 

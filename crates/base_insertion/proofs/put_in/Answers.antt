@@ -1,6 +1,5 @@
 -- `base_insertion::put_in` meets its contract: two writes, one after the other. Assumes nothing.
 use mathlib.Core.Path.{refl}
-use borrow.Author.Rules.{rules}
 use Rattle.base_insertion.proofs.put_in.Goals as goal
 
 pub returns : goal.returns

@@ -1,5 +1,4 @@
 -- `base_insertion::root_after` meets its contract. One test, whether the root points at itself. Assumes nothing.
-use borrow.Author.Rules.{rules}
 use Rattle.base_insertion.proofs.Inserting.{root_alone, root_leads}
 use Rattle.base_insertion.proofs.root_after.Goals as goal
 

@@ -1,7 +1,6 @@
 -- `base_removal::take_out` meets its contract. Joining leaves the columns' lengths, and counting leaves stack length and root, so the slot is then popped or freed as
 -- the definition says. Assumes nothing.
 use mathlib.Core.Path.{◌∙◌}
-use borrow.Author.Rules.{rules}
 use Rattle.base_slots.proofs.Removed.{poppable, freeable, last_out, other_out}
 use Rattle.base_removal.proofs.take_out.Goals as goal
 

@@ -1,6 +1,5 @@
 -- `base_slots::count_removal` meets its contract. The link count falls by one, and `generational_inc` says the rest. Assumes nothing.
 use mathlib.Core.Path.{refl}
-use borrow.Author.Rules.{rules}
 use Rattle.base_slots.specs.Removal.{fewer}
 use Rattle.base_slots.proofs.count_removal.Goals as goal
 

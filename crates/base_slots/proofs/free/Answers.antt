@@ -1,5 +1,4 @@
 -- `base_slots::free` meets its contract. The slot is vacated with what `freelist_pointer` answers of the old root, and is the root. Assumes nothing.
-use borrow.Author.Rules.{rules}
 use Rattle.base_slots.proofs.free.Goals as goal
 
 pub returns : goal.returns

@@ -1,5 +1,4 @@
 -- `base_slots::freelist_pointer` meets its contract. One test, whether there is a root. Assumes nothing.
-use borrow.Author.Rules.{rules}
 use Rattle.definitions.proofs.Tests.{tests}
 use Rattle.base_slots.proofs.freelist_pointer.Goals as goal
 

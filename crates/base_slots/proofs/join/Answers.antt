@@ -1,5 +1,4 @@
 -- `base_slots::join` meets its contract. Both words are read before either neighbour is written, so each gets the other's old word. Assumes nothing.
-use borrow.Author.Rules.{rules}
 use Rattle.base_slots.proofs.Removed.{place_within, joins}
 use Rattle.base_slots.proofs.join.Goals as goal
 

@@ -1,5 +1,4 @@
 -- `base_slots::pop` meets its contract. The slot is vacated with no freelist pointer, and the stack ends before it. Assumes nothing.
-use borrow.Author.Rules.{rules}
 use Rattle.base_slots.proofs.pop.Goals as goal
 
 pub returns : goal.returns

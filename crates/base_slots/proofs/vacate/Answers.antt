@@ -1,5 +1,4 @@
 -- `base_slots::vacate` meets its contract. Four stores at the place of slot s, one in each column. Assumes nothing.
-use borrow.Author.Rules.{rules}
 use Rattle.base_slots.proofs.Removed.{vacates}
 use Rattle.base_slots.proofs.vacate.Goals as goal
 

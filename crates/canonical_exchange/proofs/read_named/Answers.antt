@@ -1,6 +1,5 @@
 -- `canonical_exchange::read_named` meets its contract: where nobody is in slot i its word is not read. Assumes nothing.
 use mathlib.Core.Path.{sym, ◌∙◌}
-use borrow.Author.Rules.{rules}
 use Rattle.canonical_exchange.proofs.Traded.{held_none, held_some}
 use Rattle.canonical_exchange.proofs.read_named.Goals as goal
 

@@ -1,5 +1,4 @@
 -- `canonical_exchange::settle` meets its contract: two stores and a trade, one after the other. Assumes nothing.
-use borrow.Author.Rules.{rules}
 use Rattle.canonical_exchange.proofs.settle.Goals as goal
 
 pub returns : goal.returns

@@ -1,6 +1,5 @@
 -- `canonical_exchange::trade_words` meets its contract: two words read and two stored at the places of slots i and t are the definition's exchange of
 -- words (Traded). Assumes nothing.
-use borrow.Author.Rules.{rules}
 use Rattle.canonical_exchange.proofs.Traded.{still_inside, traded}
 use Rattle.canonical_exchange.proofs.trade_words.Goals as goal
 

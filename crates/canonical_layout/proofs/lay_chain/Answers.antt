@@ -1,10 +1,7 @@
-use Prim.Native.Nat.{◌+◌, ◌-◌}
-use mathlib.Core.Path.{◌≡◌, ◌∙◌}
+use mathlib.Core.Path.{◌∙◌}
 use mathlib.Core.Logic.{inl, inr}
 use native.Mathlib.Omega.{arith}
-use lib.ListN.{length}
-use Rattle.canonical_exchange.specs.Lent.{lent, AsLong}
-use Rattle.canonical_layout.proofs.ChainInPlace.{Going, going_starts, going_chain, going_below, going_on, going_over}
+use Rattle.canonical_layout.proofs.ChainInPlace.{going_starts, going_chain, going_below, going_on, going_over}
 use Rattle.canonical_layout.proofs.lay_chain.Goals as goal
 
 pub loop-t-init : goal.loop-t-init
@@ -50,9 +47,8 @@ pub loop-t-smaller : goal.loop-t-smaller
 loop-t-smaller c = omega (arith, c.lay_link-t.auto, (going_below c.loop-t.invariant.1 c.requires.in_chain).0)
 
 pub loop-t-preserved : goal.loop-t-preserved
-loop-t-preserved c =
-    (
-    omega (arith, c.lay_link-t.auto, c.loop-t.invariant.0),
-    going_on c.loop-t.invariant.1 c.loop-t.invariant.2 c.lay_link-t.ensures c.if-t-eq0.false c.if-t-first.false,
-    c.loop-t.invariant.2,
-    )
+loop-t-preserved c = (
+  omega (arith, c.lay_link-t.auto, c.loop-t.invariant.0),
+  going_on c.loop-t.invariant.1 c.loop-t.invariant.2 c.lay_link-t.ensures c.if-t-eq0.false c.if-t-first.false,
+  c.loop-t.invariant.2,
+)

@@ -1,12 +1,10 @@
 -- `canonical_layout::lay_chain` meets its contract. The loop's invariant: for whatever arena is being laid out, the definition is on its way at the state that
 -- the columns hold (ChainInPlace). The measure is the number of slots that are left. Assumes nothing.
 use Prim.Native.Nat.{◌+◌, ◌-◌}
-use mathlib.Core.Path.{◌≡◌, ◌∙◌}
-use mathlib.Core.Logic.{inl, inr}
-use native.Mathlib.Omega.{arith}
+use mathlib.Core.Path.{◌≡◌}
 use lib.ListN.{length}
 use Rattle.canonical_exchange.specs.Lent.{lent, AsLong}
-use Rattle.canonical_layout.proofs.ChainInPlace.{Going, going_starts, going_chain, going_below, going_on, going_over}
+use Rattle.canonical_layout.proofs.ChainInPlace.{Going}
 use Rattle.canonical_layout.proofs.lay_chain.Given as goal
 
 abbrev pub invariant-loop-t : goal.invariant-loop-t

@@ -1,10 +1,6 @@
-use Prim.Native.Nat.{◌-◌}
 use mathlib.Core.Path.{refl}
 use native.Mathlib.Omega.{arith}
-use borrow.Author.Rules.{rules}
-use lib.ListN.{length}
-use Rattle.canonical_exchange.specs.Lent.{lent, AsLong}
-use Rattle.canonical_layout.proofs.ChainsInPlace.{LayingOut, laying_starts, larger_within, ready_small, some_rooted, some_chain, some_place, some_more, goes_on, ends}
+use Rattle.canonical_layout.proofs.ChainsInPlace.{laying_starts, larger_within, ready_small, some_rooted, some_chain, some_place, some_more, goes_on, ends}
 use Rattle.canonical_layout.proofs.lay_chains.Goals as goal
 
 pub lowest_link-found-requires : goal.lowest_link-found-requires
@@ -38,11 +34,10 @@ pub loop-found-smaller : goal.loop-found-smaller
 loop-found-smaller c = omega (arith, c.lay_chain-laid.auto, some_more c.loop-found.invariant.1 c.loop-found-test.true c.start_of-start.ensures c.lay_chain-laid.ensures c.requires)
 
 pub loop-found-preserved : goal.loop-found-preserved
-loop-found-preserved c =
-    (
-    omega (arith, c.lay_chain-laid.auto, c.loop-found.invariant.0),
-    goes_on c.loop-found.invariant.1 c.loop-found-test.true c.start_of-start.ensures c.lay_chain-laid.ensures c.larger-from.ensures c.lowest_link-found-in-loop-found.ensures,
-    )
+loop-found-preserved c = (
+  omega (arith, c.lay_chain-laid.auto, c.loop-found.invariant.0),
+  goes_on c.loop-found.invariant.1 c.loop-found-test.true c.start_of-start.ensures c.lay_chain-laid.ensures c.larger-from.ensures c.lowest_link-found-in-loop-found.ensures,
+)
 
 pub returns : goal.returns
 returns c = ends c.loop-found.invariant.1 c.loop-found-test.false

@@ -1,12 +1,9 @@
 -- `canonical_layout::lay_chains` meets its contract. The loop's invariant: for whatever arena is being laid out, the definition is between two chains at the
 -- state that the columns hold, and the lowest link that waits was found (ChainsInPlace). The measure is the number of slots that are left. Assumes nothing.
 use Prim.Native.Nat.{◌-◌}
-use mathlib.Core.Path.{refl}
-use native.Mathlib.Omega.{arith}
-use borrow.Author.Rules.{rules}
 use lib.ListN.{length}
 use Rattle.canonical_exchange.specs.Lent.{lent, AsLong}
-use Rattle.canonical_layout.proofs.ChainsInPlace.{LayingOut, laying_starts, larger_within, ready_small, some_rooted, some_chain, some_place, some_more, goes_on, ends}
+use Rattle.canonical_layout.proofs.ChainsInPlace.{LayingOut}
 use Rattle.canonical_layout.proofs.lay_chains.Given as goal
 
 abbrev pub invariant-loop-found : goal.invariant-loop-found

@@ -1,7 +1,6 @@
 -- `canonical_layout::lay_link` meets its contract. The link is in its place already, or the exchange in place brings it there: both are the definition's step
 -- (LinkInPlace). The arena that the caller has makes it safe. Assumes nothing.
 use native.Mathlib.Omega.{arith}
-use borrow.Author.Rules.{rules}
 use Rattle.canonical_layout.proofs.LinkInPlace.{place_small, place_in_next, both_in_reach, stays_laid, exchanged_laid}
 use Rattle.canonical_layout.proofs.lay_link.Goals as goal
 

@@ -1,8 +1,4 @@
-use Prim.Native.Nat.{◌-◌}
-use native.Mathlib.Omega.{arith}
-use borrow.Author.Rules.{rules}
-use lib.ListN.{length}
-use Rattle.canonical_layout.proofs.Search.{Searching, search_starts, search_goes_on, search_finds, search_ends}
+use Rattle.canonical_layout.proofs.Search.{search_starts, search_goes_on, search_finds, search_ends}
 use Rattle.canonical_layout.proofs.lowest_link.Goals as goal
 
 pub loop-s-init : goal.loop-s-init

@@ -1,10 +1,8 @@
 -- `canonical_layout::lowest_link` meets its contract. The loop's invariant: nobody was in the slots passed, so the lowest link from here on is the lowest link
 -- (Search). The measure is what is left of the column. Assumes nothing.
 use Prim.Native.Nat.{◌-◌}
-use native.Mathlib.Omega.{arith}
-use borrow.Author.Rules.{rules}
 use lib.ListN.{length}
-use Rattle.canonical_layout.proofs.Search.{Searching, search_starts, search_goes_on, search_finds, search_ends}
+use Rattle.canonical_layout.proofs.Search.{Searching}
 use Rattle.canonical_layout.proofs.lowest_link.Given as goal
 
 abbrev pub invariant-loop-s : goal.invariant-loop-s

@@ -1,5 +1,4 @@
-use borrow.Author.Rules.{rules}
-use Rattle.canonical_layout.proofs.Search.{Back, back_starts, back_within, back_stops, back_round, back_goes_on, back_ends}
+use Rattle.canonical_layout.proofs.Search.{back_starts, back_within, back_stops, back_round, back_goes_on, back_ends}
 use Rattle.canonical_layout.proofs.start_of.Goals as goal
 
 pub loop-left-init : goal.loop-left-init

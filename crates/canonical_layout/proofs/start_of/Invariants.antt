@@ -1,7 +1,6 @@
 -- `canonical_layout::start_of` meets its contract. The loop's invariant: the definition's walk back from slot s, with as many steps left, ends where the whole
 -- walk does (Search). The measure is the number of steps left. Assumes nothing.
-use borrow.Author.Rules.{rules}
-use Rattle.canonical_layout.proofs.Search.{Back, back_starts, back_within, back_stops, back_round, back_goes_on, back_ends}
+use Rattle.canonical_layout.proofs.Search.{Back}
 use Rattle.canonical_layout.proofs.start_of.Given as goal
 
 abbrev pub invariant-loop-left : goal.invariant-loop-left

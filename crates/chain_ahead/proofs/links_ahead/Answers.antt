@@ -1,9 +1,7 @@
 use native.Mathlib.Omega.{arith}
-use Rattle.definitions.specs.Arena.{arena}
-use Rattle.chain_iterators.specs.Walk.{walk_of, OnChain}
 use Rattle.chain_iterators.proofs.Chain.{step_on_chain}
 use Rattle.well_formed.proofs.WellFormed.{shape_if_well_formed}
-use Rattle.chain_ahead.proofs.Ahead.{ahead_less, Counting, counting_starts, counting_ends, counting_small, counting_goes_on}
+use Rattle.chain_ahead.proofs.Ahead.{ahead_less, counting_starts, counting_ends, counting_small, counting_goes_on}
 use Rattle.chain_ahead.proofs.links_ahead.Goals as goal
 
 pub loop-step-init : goal.loop-step-init

@@ -1,11 +1,8 @@
 -- `chain_ahead::links_ahead` meets its contract. The loop's invariant: the links counted and those still ahead are all that were ahead. The measure
 -- is the advances left. Assumes nothing.
-use native.Mathlib.Omega.{arith}
 use Rattle.definitions.specs.Arena.{arena}
 use Rattle.chain_iterators.specs.Walk.{walk_of, OnChain}
-use Rattle.chain_iterators.proofs.Chain.{step_on_chain}
-use Rattle.well_formed.proofs.WellFormed.{shape_if_well_formed}
-use Rattle.chain_ahead.proofs.Ahead.{ahead_less, Counting, counting_starts, counting_ends, counting_small, counting_goes_on}
+use Rattle.chain_ahead.proofs.Ahead.{Counting}
 use Rattle.chain_ahead.proofs.links_ahead.Given as goal
 
 abbrev pub invariant-loop-step : goal.invariant-loop-step

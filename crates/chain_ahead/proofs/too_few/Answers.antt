@@ -1,6 +1,5 @@
 -- `chain_ahead::too_few` meets its contract: no walk answers more links than it has advances left. Assumes nothing.
 use mathlib.Core.Path.{refl}
-use borrow.Author.Rules.{rules}
 use Rattle.chain_ahead.proofs.Ahead.{ahead_fits}
 use Rattle.chain_ahead.proofs.too_few.Goals as goal
 

@@ -2,13 +2,9 @@
 -- which rule 11 fails with its side, then none. Assumes nothing.
 use mathlib.Core.Path.{sym, ◌∙◌}
 use native.Mathlib.Omega.{arith}
-use mir.Facts.{Fits-widen}
-use Rattle.definitions.specs.Arena.{Arena, arena, capacity_limit}
-use Rattle.definitions.proofs.Shaped.{Shaped}
 use Rattle.definitions.proofs.Broken.{first_within}
 use Rattle.base_arena.proofs.Refusals.{shaped_if_accepted}
 use Rattle.chain_arena.proofs.Verdict.{checks_shape, checks_counts, checks_broken, checks_passed}
-use borrow.Author.Rules.{rules}
 use Rattle.chain_arena.proofs.check.Goals as goal
 
 pub returns-then-misshapen-ne0 : goal.returns-then-misshapen-ne0

@@ -1,10 +1,6 @@
-use Prim.Native.Nat.{ℕ, ◌+◌, ◌-◌, ◌≤◌, ◌<◌}
-use mathlib.Core.Path.{◌≡◌, sym}
-use mathlib.Core.Bool.{true}
+use mathlib.Core.Path.{sym}
 use native.Mathlib.Omega.{arith}
 use borrow.Author.Count.{below_more}
-use borrow.Author.Rules.{rules}
-use Rattle.definitions.specs.Check.{neighbours_fine}
 use Rattle.definitions.proofs.Tests.{tests}
 use Rattle.definitions.proofs.Broken.{first_is, none_first}
 use Rattle.chain_arena.proofs.interlinks.Goals as goal

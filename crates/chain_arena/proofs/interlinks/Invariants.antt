@@ -1,14 +1,9 @@
 -- `chain_arena::interlinks` meets its contract. The loop's invariant: rule 11 holds at every slot below x. The measure is what is left of the n
 -- slots. Assumes nothing.
 use Prim.Native.Nat.{ℕ, ◌+◌, ◌-◌, ◌≤◌, ◌<◌}
-use mathlib.Core.Path.{◌≡◌, sym}
+use mathlib.Core.Path.{◌≡◌}
 use mathlib.Core.Bool.{true}
-use native.Mathlib.Omega.{arith}
-use borrow.Author.Count.{below_more}
-use borrow.Author.Rules.{rules}
 use Rattle.definitions.specs.Check.{neighbours_fine}
-use Rattle.definitions.proofs.Tests.{tests}
-use Rattle.definitions.proofs.Broken.{first_is, none_first}
 use Rattle.chain_arena.proofs.interlinks.Given as goal
 
 abbrev pub invariant-loop-x : goal.invariant-loop-x

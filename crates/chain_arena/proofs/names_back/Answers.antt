@@ -1,8 +1,6 @@
 -- `chain_arena::names_back` meets its contract. Its tests are those of the definition, read at place s - 1. Assumes nothing.
-use mir.Facts.{Fits-widen}
 use Rattle.definitions.proofs.Tests.{tests}
 use Rattle.chain_arena.proofs.Neighbours.{names_back_read}
-use borrow.Author.Rules.{rules}
 use Rattle.chain_arena.proofs.names_back.Goals as goal
 
 pub returns-then-s-eq0 : goal.returns-then-s-eq0

@@ -1,8 +1,6 @@
 -- `chain_arena::neighbours_fine` meets its contract. Its tests are those of the definition, read at place x - 1. Assumes nothing.
-use mir.Facts.{Fits-widen}
 use Rattle.definitions.proofs.Tests.{tests}
 use Rattle.chain_arena.proofs.Neighbours.{neighbours_fine_read}
-use borrow.Author.Rules.{rules}
 use Rattle.chain_arena.proofs.neighbours_fine.Goals as goal
 
 pub returns-then-generation-x-eq0 : goal.returns-then-generation-x-eq0

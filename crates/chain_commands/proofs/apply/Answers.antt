@@ -1,5 +1,4 @@
 -- `chain_commands::apply` meets its contract. Its code says which edit a command is. Assumes nothing.
-use borrow.Author.Rules.{rules}
 use Rattle.chain_commands.proofs.Step.{connects, breaks, exchanges, removes, inserts, no_code, zero_left, from_six}
 use Rattle.chain_commands.proofs.apply.Goals as goal
 

@@ -1,12 +1,8 @@
 -- `chain_drain::drain` meets its contract. The walk's slots are different links, so each is one still when its turn comes. Assumes nothing.
-use Prim.Native.Nat.{◌*◌, ◌≤◌}
-use mathlib.Core.Path.{refl, ◌∙◌}
-use lib.ListN.{length}
+use mathlib.Core.Path.{◌∙◌}
 use Rattle.definitions.specs.Arena.{arena}
-use Rattle.chain_iterators.specs.Walk.{walk_of}
 use Rattle.chain_traits.specs.Read.{pointer_of}
-use Rattle.chain_ahead.specs.Ahead.{slots_ahead}
-use Rattle.chain_ahead.proofs.Started.{StartedAt, started, started_on_chain}
+use Rattle.chain_ahead.proofs.Started.{started, started_on_chain}
 use Rattle.chain_drain.proofs.Answers.{drain_none, drain_short, has_room, listed_room, drain_can, drain_done}
 use Rattle.well_formed.proofs.WellFormed.{shape_if_well_formed}
 use Rattle.chain_drain.proofs.drain.Goals as goal

@@ -1,10 +1,8 @@
 -- `chain_drain_items::drain_item` meets its contract: the link is reported before it is taken out. Assumes nothing.
-use native.Mathlib.Omega.{arith}
-use borrow.Author.Rules.{rules}
 use Rattle.chain_drain_items.proofs.drain_item.Goals as goal
 
 pub report_link-requires : goal.report_link-requires
-report_link-requires c =  record { stands = search; room = search }
+report_link-requires c = record { stands = search; room = search }
 
 pub take_out-requires : goal.take_out-requires
 take_out-requires c = search

@@ -1,9 +1,6 @@
-use Prim.Native.Nat.{◌-◌}
 use native.Mathlib.Omega.{arith}
-use borrow.Author.Rules.{rules}
 use Rattle.base_slots.proofs.Removable.{removable}
-use Rattle.definitions.specs.Arena.{arena, capacity_limit, largest_generation}
-use Rattle.chain_drain_items.proofs.Draining.{Draining, draining_starts, draining_ends, next_link, next_room, draining_goes_on}
+use Rattle.chain_drain_items.proofs.Draining.{draining_starts, draining_ends, next_link, next_room, draining_goes_on}
 use Rattle.chain_drain_items.proofs.drain_items.Goals as goal
 
 pub loop-item-init : goal.loop-item-init

@@ -1,11 +1,8 @@
 -- `chain_drain_items::drain_items` meets its contract. The loop's invariant: what the drained items left, and draining the others from there, make the
 -- whole. The measure is the items left. Assumes nothing.
 use Prim.Native.Nat.{◌-◌}
-use native.Mathlib.Omega.{arith}
-use borrow.Author.Rules.{rules}
-use Rattle.base_slots.proofs.Removable.{removable}
 use Rattle.definitions.specs.Arena.{arena, capacity_limit, largest_generation}
-use Rattle.chain_drain_items.proofs.Draining.{Draining, draining_starts, draining_ends, next_link, next_room, draining_goes_on}
+use Rattle.chain_drain_items.proofs.Draining.{Draining}
 use Rattle.chain_drain_items.proofs.drain_items.Given as goal
 
 abbrev pub invariant-loop-item : goal.invariant-loop-item

@@ -1,12 +1,8 @@
-use Prim.Native.Nat.{◌+◌, ◌*◌, ◌≤◌, ◌<◌}
 use native.Mathlib.Omega.{arith}
-use lib.ListN.{length}
-use Rattle.definitions.specs.Arena.{arena}
-use Rattle.chain_iterators.specs.Walk.{walk_of, OnChain}
 use Rattle.chain_iterators.proofs.Chain.{step_on_chain}
 use Rattle.well_formed.proofs.WellFormed.{shape_if_well_formed}
 use Rattle.chain_ahead.proofs.Ahead.{ahead_less}
-use Rattle.chain_drain_items.proofs.Listing.{Listing, listing_starts, listing_ends, listing_small, listing_room, listing_goes_on}
+use Rattle.chain_drain_items.proofs.Listing.{listing_starts, listing_ends, listing_small, listing_room, listing_goes_on}
 use Rattle.chain_drain_items.proofs.list_slots.Goals as goal
 
 pub loop-step-init : goal.loop-step-init

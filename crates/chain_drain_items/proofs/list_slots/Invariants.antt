@@ -1,14 +1,8 @@
 -- `chain_drain_items::list_slots` meets its contract. The loop's invariant: the slots listed and those still ahead are all that were ahead, and the words
 -- past the listed items are the old ones. The measure is the advances left. Assumes nothing.
-use Prim.Native.Nat.{◌+◌, ◌*◌, ◌≤◌, ◌<◌}
-use native.Mathlib.Omega.{arith}
-use lib.ListN.{length}
 use Rattle.definitions.specs.Arena.{arena}
 use Rattle.chain_iterators.specs.Walk.{walk_of, OnChain}
-use Rattle.chain_iterators.proofs.Chain.{step_on_chain}
-use Rattle.well_formed.proofs.WellFormed.{shape_if_well_formed}
-use Rattle.chain_ahead.proofs.Ahead.{ahead_less}
-use Rattle.chain_drain_items.proofs.Listing.{Listing, listing_starts, listing_ends, listing_small, listing_room, listing_goes_on}
+use Rattle.chain_drain_items.proofs.Listing.{Listing}
 use Rattle.chain_drain_items.proofs.list_slots.Given as goal
 
 abbrev pub invariant-loop-step : goal.invariant-loop-step

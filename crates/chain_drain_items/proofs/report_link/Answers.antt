@@ -1,6 +1,5 @@
 -- `chain_drain_items::report_link` meets its contract: the five stores are the item's words, as they stand in the columns. Assumes nothing.
 use native.Mathlib.Omega.{arith}
-use borrow.Author.Rules.{rules}
 use lib.ListN.{length-set}
 use mathlib.Core.List.{[]}
 use Rattle.definitions.specs.Arena.{arena}

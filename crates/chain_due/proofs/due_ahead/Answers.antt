@@ -1,13 +1,9 @@
 use native.Mathlib.Omega.{arith}
-use borrow.Author.Rules.{rules}
 use mathlib.Core.Path.{sym, ◌∙◌}
-use Rattle.definitions.specs.Arena.{arena}
-use Rattle.chain_iterators.specs.Walk.{walk_of, OnChain}
 use Rattle.chain_iterators.proofs.Chain.{step_on_chain}
 use Rattle.well_formed.proofs.WellFormed.{shape_if_well_formed}
 use Rattle.chain_ahead.proofs.Ahead.{ahead_less}
-use Rattle.chain_due.specs.Due.{is_due}
-use Rattle.chain_due.proofs.Passing.{Passed, passed_starts, passed_count, passed_yes, passed_no, passed_few, step_slot}
+use Rattle.chain_due.proofs.Passing.{passed_starts, passed_count, passed_yes, passed_no, passed_few, step_slot}
 use Rattle.chain_due.proofs.due_ahead.Goals as goal
 
 pub loop-window-init : goal.loop-window-init

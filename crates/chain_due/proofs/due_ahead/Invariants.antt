@@ -1,15 +1,9 @@
 -- `chain_due::due_ahead` meets its contract. The loop's invariant: the due links counted and those still ahead are all that were ahead. The measure is the
 -- advances left. Assumes nothing.
-use native.Mathlib.Omega.{arith}
-use borrow.Author.Rules.{rules}
-use mathlib.Core.Path.{sym, ◌∙◌}
 use Rattle.definitions.specs.Arena.{arena}
 use Rattle.chain_iterators.specs.Walk.{walk_of, OnChain}
-use Rattle.chain_iterators.proofs.Chain.{step_on_chain}
-use Rattle.well_formed.proofs.WellFormed.{shape_if_well_formed}
-use Rattle.chain_ahead.proofs.Ahead.{ahead_less}
 use Rattle.chain_due.specs.Due.{is_due}
-use Rattle.chain_due.proofs.Passing.{Passed, passed_starts, passed_count, passed_yes, passed_no, passed_few, step_slot}
+use Rattle.chain_due.proofs.Passing.{Passed}
 use Rattle.chain_due.proofs.due_ahead.Given as goal
 
 abbrev pub invariant-loop-window : goal.invariant-loop-window

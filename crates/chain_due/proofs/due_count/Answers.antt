@@ -1,11 +1,9 @@
 -- `chain_due::due_count` meets its contract: first the pointer is tried, then the window. Assumes nothing.
-use borrow.Author.Rules.{rules}
 use Rattle.definitions.specs.Arena.{arena}
 use Rattle.definitions.proofs.Tests.{said_true, said_false}
-use Rattle.chain_ahead.proofs.Started.{StartedAt, started, started_on_chain}
+use Rattle.chain_ahead.proofs.Started.{started, started_on_chain}
 use Rattle.well_formed.proofs.WellFormed.{shape_if_well_formed}
 use Rattle.chain_traits.specs.Read.{pointer_of}
-use Rattle.chain_due.specs.Due.{IsWindow}
 use Rattle.chain_due.proofs.Answers.{count_stale, count_no_window, count_done_lem}
 use Rattle.chain_due.proofs.due_count.Goals as goal
 

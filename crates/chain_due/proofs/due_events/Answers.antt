@@ -1,12 +1,10 @@
 -- `chain_due::due_events` meets its contract: the pointer is tried first, then the window, then the room in the report. Assumes nothing.
-use borrow.Author.Rules.{rules}
 use borrow.Author.Tests.{ltb-false}
 use Rattle.definitions.specs.Arena.{arena}
 use Rattle.definitions.proofs.Tests.{said_true, said_false}
-use Rattle.chain_ahead.proofs.Started.{StartedAt, started, started_on_chain}
+use Rattle.chain_ahead.proofs.Started.{started, started_on_chain}
 use Rattle.well_formed.proofs.WellFormed.{shape_if_well_formed}
 use Rattle.chain_traits.specs.Read.{pointer_of}
-use Rattle.chain_due.specs.Due.{IsWindow}
 use Rattle.chain_due.proofs.Answers.{events_stale, events_no_window, events_short, events_done_lem}
 use Rattle.chain_due.proofs.due_events.Goals as goal
 

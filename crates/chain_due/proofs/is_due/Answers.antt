@@ -1,6 +1,5 @@
 -- `chain_due::is_due` meets its contract: the payload is that of the slot. Assumes nothing.
 use mathlib.Core.Path.{◌∙◌, ap}
-use borrow.Author.Rules.{rules}
 use Rattle.definitions.specs.Clock.{due}
 use Rattle.chain_due.proofs.is_due.Goals as goal
 

@@ -1,14 +1,9 @@
-use Prim.Native.Nat.{◌+◌, ◌≤◌}
 use mathlib.Core.Path.{sym, ◌∙◌}
 use native.Mathlib.Omega.{arith}
-use borrow.Author.Rules.{rules}
-use Rattle.definitions.specs.Arena.{arena}
-use Rattle.chain_iterators.specs.Walk.{walk_of, OnChain}
 use Rattle.chain_iterators.proofs.Chain.{step_on_chain}
 use Rattle.well_formed.proofs.WellFormed.{shape_if_well_formed}
 use Rattle.chain_ahead.proofs.Ahead.{ahead_less}
-use Rattle.chain_due.specs.Due.{is_due}
-use Rattle.chain_due.proofs.Passing.{Reported, reported_starts, reported_length, reported_all, reported_no, reported_room, reported_yes, passed_few, step_slot}
+use Rattle.chain_due.proofs.Passing.{reported_starts, reported_length, reported_all, reported_no, reported_room, reported_yes, passed_few, step_slot}
 use Rattle.chain_due.proofs.list_due.Goals as goal
 
 pub loop-window-init : goal.loop-window-init

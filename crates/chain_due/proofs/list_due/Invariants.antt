@@ -1,16 +1,9 @@
 -- `chain_due::list_due` meets its contract. The loop's invariant: the due links reported and those still ahead are all that were ahead, and the words
 -- past them are the old ones. The measure is the advances left. Assumes nothing.
-use Prim.Native.Nat.{◌+◌, ◌≤◌}
-use mathlib.Core.Path.{sym, ◌∙◌}
-use native.Mathlib.Omega.{arith}
-use borrow.Author.Rules.{rules}
 use Rattle.definitions.specs.Arena.{arena}
 use Rattle.chain_iterators.specs.Walk.{walk_of, OnChain}
-use Rattle.chain_iterators.proofs.Chain.{step_on_chain}
-use Rattle.well_formed.proofs.WellFormed.{shape_if_well_formed}
-use Rattle.chain_ahead.proofs.Ahead.{ahead_less}
 use Rattle.chain_due.specs.Due.{is_due}
-use Rattle.chain_due.proofs.Passing.{Reported, reported_starts, reported_length, reported_all, reported_no, reported_room, reported_yes, passed_few, step_slot}
+use Rattle.chain_due.proofs.Passing.{Reported}
 use Rattle.chain_due.proofs.list_due.Given as goal
 
 abbrev pub invariant-loop-window : goal.invariant-loop-window

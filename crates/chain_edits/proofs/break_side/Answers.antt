@@ -1,12 +1,6 @@
 -- `chain_edits::break_side` meets its contract. A neighbour of a link is in the stack, so its word can be written; which side it is on decides only which of the two
 -- slots is which. Assumes nothing.
-use mathlib.Core.Bool.{false}
-use mathlib.Core.Path.{◌≡◌}
-use borrow.Author.Rules.{rules}
-use Rattle.base_slots.specs.Removal.{Joinable}
 use Rattle.definitions.specs.Arena.{arena}
-use Rattle.definitions.specs.Lent.{lent}
-use Rattle.definitions.specs.Read.{stale}
 use Rattle.chain_edits.proofs.Around.{around}
 use Rattle.chain_edits.proofs.Sides.{beside, side_stale, side_none, side_done, from_stands, to_stands}
 use Rattle.chain_traits.proofs.Fresh.{is_stale, is_fresh}

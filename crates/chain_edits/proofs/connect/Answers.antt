@@ -1,6 +1,5 @@
 -- `chain_edits::connect` meets its contract. The four tests are those of the definition, in its order; a pointer that is not stale is in both columns. Assumes nothing.
 use mathlib.Core.Path.{sym, ◌∙◌}
-use borrow.Author.Rules.{rules}
 use Rattle.definitions.specs.Edit.{connect}
 use Rattle.chain_edits.proofs.Around.{around}
 use Rattle.chain_edits.proofs.Replies.{written, is_some}

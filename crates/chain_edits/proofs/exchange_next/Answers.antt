@@ -1,16 +1,10 @@
 -- `chain_edits::exchange_next` meets its contract. Both nexts are read before any word is written, and neighbours are in the stack, also where two of the four links are one. Assumes nothing.
-use mathlib.Core.Bool.{false}
-use mathlib.Core.Path.{◌≡◌, sym, ◌∙◌}
+use mathlib.Core.Path.{sym, ◌∙◌}
 use borrow.Author.Rules.{rules}
-use Rattle.base_slots.specs.Removal.{Joinable}
-use Rattle.definitions.specs.Arena.{Arena}
 use Rattle.definitions.specs.Edit.{exchange_next}
-use Rattle.definitions.specs.Lent.{lent}
-use Rattle.definitions.specs.Read.{stale}
 use Rattle.chain_edits.proofs.Around.{around, next_stands}
 use Rattle.chain_edits.proofs.Replies.{exchanged}
 use Rattle.chain_traits.proofs.Fresh.{is_fresh, reads}
-use Rattle.chain_traits.specs.Read.{pointer_of}
 use Rattle.chain_edits.proofs.exchange_next.Goals as goal
 
 pub returns-then-stale : goal.returns-then-stale

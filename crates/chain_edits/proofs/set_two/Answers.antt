@@ -1,5 +1,4 @@
 -- `chain_edits::set_two` meets its contract. The second store is made on what the first one left. Assumes nothing.
-use borrow.Author.Rules.{rules}
 use Rattle.chain_edits.proofs.set_two.Goals as goal
 
 pub returns : goal.returns

@@ -1,5 +1,4 @@
 -- `chain_insertion::insert` meets its contract. The slot is 0 exactly where there is no room, and the kind has its place whatever the slot is, so that 17 comes before 18. Assumes nothing.
-use borrow.Author.Rules.{rules}
 use Rattle.chain_insertion.proofs.Insertions.{roomy, no_slot, room, new_slot_lem, no_place, no_room, put_in, insertable}
 use Rattle.well_formed.proofs.WellFormed.{shape_if_well_formed}
 use Rattle.chain_insertion.proofs.insert.Goals as goal

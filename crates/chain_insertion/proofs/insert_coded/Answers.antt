@@ -1,5 +1,4 @@
 -- `chain_insertion::insert_coded` meets its contract: the code's kind, if there is one, is inserted. Assumes nothing.
-use borrow.Author.Rules.{rules}
 use Rattle.chain_insertion.proofs.Insertions.{no_kind, its_kind}
 use Rattle.chain_insertion.proofs.insert_coded.Goals as goal
 

@@ -1,5 +1,4 @@
 -- `chain_iterators::advancer_chain` meets its contract: its one test is that of the definition. Assumes nothing.
-use borrow.Author.Rules.{rules}
 use Rattle.definitions.specs.Walk.{walk_start}
 use Rattle.chain_traits.proofs.Fresh.{reads}
 use Rattle.chain_iterators.proofs.advancer_chain.Goals as goal

@@ -1,7 +1,6 @@
 -- `chain_iterators::is_link` meets its contract: slot 0 and slots past the stack are no links, and of any other the generation decides.
 -- Assumes nothing.
 use mathlib.Core.Path.{refl, sym}
-use borrow.Author.Rules.{rules}
 use borrow.Author.Tests.{le-leb}
 use Rattle.definitions.specs.Arena.{allocated}
 use Rattle.definitions.proofs.Columns.{at_zero}

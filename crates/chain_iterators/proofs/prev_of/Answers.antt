@@ -1,6 +1,5 @@
 -- `chain_iterators::prev_of` meets its contract: a link is within the stack, and so within the column. Assumes nothing.
 use native.Mathlib.Omega.{arith}
-use borrow.Author.Rules.{rules}
 use Rattle.definitions.proofs.Tests.{said_true, tests}
 use Rattle.definitions.proofs.Steps.{link_slot}
 use Rattle.chain_iterators.proofs.prev_of.Goals as goal

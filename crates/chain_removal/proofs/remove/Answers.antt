@@ -1,6 +1,4 @@
 -- `chain_removal::remove` meets its contract. What was read before is what the link was; a link of a well formed arena can be taken out. Assumes nothing.
-use mathlib.Core.Path.{refl}
-use borrow.Author.Rules.{rules}
 use Rattle.definitions.specs.Arena.{arena}
 use Rattle.base_slots.proofs.Removable.{removable}
 use Rattle.chain_removal.proofs.Removal.{remove_none, remove_found}

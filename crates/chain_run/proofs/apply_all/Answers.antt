@@ -1,7 +1,5 @@
-use Prim.Native.Nat.{◌-◌}
 use native.Mathlib.Omega.{arith}
-use Rattle.definitions.specs.Arena.{arena, largest_generation}
-use Rattle.chain_run.proofs.Going.{Going, starts, passes, goes_on, ends}
+use Rattle.chain_run.proofs.Going.{starts, passes, goes_on, ends}
 use Rattle.chain_run.proofs.apply_all.Goals as goal
 
 pub loop-i-init : goal.loop-i-init

@@ -1,9 +1,8 @@
 -- `chain_run::apply_all` meets its contract. The loop's invariant: after i commands the arena and the answers are those of the first i. Each arena on the way is well formed, since
 -- commands keep that. The measure is the number of commands left. Assumes nothing.
 use Prim.Native.Nat.{◌-◌}
-use native.Mathlib.Omega.{arith}
 use Rattle.definitions.specs.Arena.{arena, largest_generation}
-use Rattle.chain_run.proofs.Going.{Going, starts, passes, goes_on, ends}
+use Rattle.chain_run.proofs.Going.{Going}
 use Rattle.chain_run.proofs.apply_all.Given as goal
 
 abbrev pub invariant-loop-i : goal.invariant-loop-i

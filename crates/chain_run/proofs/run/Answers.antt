@@ -1,5 +1,4 @@
 -- `chain_run::run` meets its contract. Two tests, and then the loop over the commands. Assumes nothing.
-use borrow.Author.Rules.{rules}
 use Rattle.definitions.proofs.Tests.{tests}
 use Rattle.definitions.specs.Run.{run}
 use Rattle.chain_run.proofs.Going.{ran}

@@ -1,7 +1,6 @@
 -- `chain_traits::are_neighbors` meets its contract: its tests are those of the definition, in their order. Assumes nothing.
 use mathlib.Core.Path.{sym, ◌∙◌}
 use native.Mathlib.Omega.{arith}
-use borrow.Author.Rules.{rules}
 use Rattle.definitions.specs.Read.{neighbors}
 use Rattle.chain_traits.proofs.Fresh.{fresh, is_fresh, fresh_neighbors, reads}
 use Rattle.chain_traits.proofs.are_neighbors.Goals as goal

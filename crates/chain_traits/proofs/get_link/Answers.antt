@@ -1,6 +1,5 @@
 -- `chain_traits::get_link` meets its contract. What get_link_no_gen found is the link at p, and in an arena that passed the check its neighbours
 -- are within the stack, where their generations are read. Assumes nothing.
-use borrow.Author.Rules.{rules}
 use Rattle.definitions.proofs.Shaped.{shaped}
 use Rattle.chain_traits.proofs.Found.{found, found_within, found_link, none_found}
 use Rattle.chain_traits.proofs.get_link.Goals as goal

@@ -1,7 +1,6 @@
 -- `chain_traits::get_link_no_gen` meets its contract: where p is not stale its slot is within the stack, and so within every column. Assumes nothing.
 use mathlib.Core.Path.{sym, ◌∙◌}
 use native.Mathlib.Omega.{arith}
-use borrow.Author.Rules.{rules}
 use Rattle.definitions.specs.Read.{get_link_no_gen}
 use Rattle.chain_traits.proofs.Fresh.{fresh, reads}
 use Rattle.chain_traits.proofs.get_link_no_gen.Goals as goal

@@ -1,6 +1,5 @@
 -- `chain_traits::pointer_to` meets its contract: slot 0 has generation 0, and any other slot's is read. Assumes nothing.
 use mathlib.Core.Path.{refl}
-use borrow.Author.Rules.{rules}
 use Rattle.definitions.proofs.Columns.{at_zero}
 use Rattle.chain_traits.proofs.pointer_to.Goals as goal
 

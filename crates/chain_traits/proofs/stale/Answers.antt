@@ -1,5 +1,4 @@
 -- `chain_traits::stale` meets its contract: its tests are those of the definition, in their order. Assumes nothing.
-use borrow.Author.Rules.{rules}
 use Rattle.definitions.specs.Read.{stale}
 use Rattle.definitions.proofs.Tests.{tests}
 use Rattle.chain_traits.specs.Read.{stale_in}

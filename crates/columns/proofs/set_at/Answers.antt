@@ -1,6 +1,5 @@
 -- `columns::set_at` meets its contract. The place of slot s is s - 1. Assumes nothing.
 use native.Mathlib.Omega.{arith}
-use borrow.Author.Rules.{rules}
 use Rattle.definitions.proofs.Columns.{put_place}
 use Rattle.columns.proofs.set_at.Goals as goal
 

@@ -1,6 +1,5 @@
 -- `columns::slot_at` meets its contract: the word of slot s has index s - 1. Assumes nothing.
 use native.Mathlib.Omega.{arith}
-use borrow.Author.Rules.{rules}
 use Rattle.definitions.proofs.Columns.{at_place}
 use Rattle.columns.proofs.slot_at.Goals as goal
 

@@ -1,6 +1,5 @@
 -- `columns::word_at` meets its contract: the word of slot s has index s - 1. Assumes nothing.
 use native.Mathlib.Omega.{arith}
-use borrow.Author.Rules.{rules}
 use Rattle.definitions.proofs.Columns.{at_place}
 use Rattle.columns.proofs.word_at.Goals as goal
 

@@ -1,7 +1,6 @@
 -- `compress_canonical::lay_out` meets its contract: the marked columns hold the arena as it is, up to the stack length, and what is above that is not
 -- lent (Stack). Assumes nothing.
 use native.Mathlib.Omega.{arith}
-use borrow.Author.Rules.{rules}
 use Rattle.compress_canonical.proofs.Stack.{prev_part, next_part, generation_part, payload_part, from_part, marked_part, is_ready, is_laid_in}
 use Rattle.compress_canonical.proofs.lay_out.Goals as goal
 

@@ -1,8 +1,6 @@
-use Prim.Native.Nat.{◌-◌}
 use native.Mathlib.Omega.{arith}
-use borrow.Author.Rules.{rules}
-use lib.ListN.{length, length-set}
-use Rattle.compress_canonical.proofs.Marks.{Marking, marking_starts, marking_goes_on, all_marked}
+use lib.ListN.{length-set}
+use Rattle.compress_canonical.proofs.Marks.{marking_starts, marking_goes_on, all_marked}
 use Rattle.compress_canonical.proofs.mark_links.Goals as goal
 
 pub loop-s-init : goal.loop-s-init

@@ -1,10 +1,8 @@
 -- `compress_canonical::mark_links` meets its contract. The loop's invariant: the slots passed are marked (Marks). The measure is what is left of the column.
 -- Assumes nothing.
 use Prim.Native.Nat.{◌-◌}
-use native.Mathlib.Omega.{arith}
-use borrow.Author.Rules.{rules}
-use lib.ListN.{length, length-set}
-use Rattle.compress_canonical.proofs.Marks.{Marking, marking_starts, marking_goes_on, all_marked}
+use lib.ListN.{length}
+use Rattle.compress_canonical.proofs.Marks.{Marking}
 use Rattle.compress_canonical.proofs.mark_links.Given as goal
 
 abbrev pub invariant-loop-s : goal.invariant-loop-s

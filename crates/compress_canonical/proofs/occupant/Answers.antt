@@ -1,5 +1,4 @@
 -- `compress_canonical::occupant` meets its contract. Assumes nothing.
-use borrow.Author.Rules.{rules}
 use Rattle.definitions.proofs.Tests.{tests}
 use Rattle.compress_canonical.proofs.occupant.Goals as goal
 

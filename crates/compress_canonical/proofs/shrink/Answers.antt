@@ -2,7 +2,6 @@
 use mathlib.Core.Path.{◌∙◌}
 use native.Mathlib.Omega.{arith}
 use lib.ListN.{length-set}
-use borrow.Author.Rules.{rules}
 use Rattle.compress_canonical.proofs.Shrinks.{shrinks}
 use Rattle.compress_canonical.proofs.shrink.Goals as goal
 

@@ -1,12 +1,9 @@
 -- `compress_moves::fill_generation` meets its contract. The loop's invariant: the first i slots have the generation g, and the others their old one.
 -- The measure is what is left to fill. Assumes nothing.
 use Prim.Native.Nat.{◌≤◌, ◌-◌}
-use mathlib.Core.Path.{◌≡◌, refl, ap, ◌∙◌}
+use mathlib.Core.Path.{◌≡◌}
 use mathlib.Core.List.{◌++◌}
-use native.Mathlib.Omega.{arith}
-use borrow.Author.Rules.{rules}
-use borrow.Author.Fill.{fill_more}
-use lib.ListN.{length, drop, replicate, set, length-set}
+use lib.ListN.{length, drop, replicate}
 use Rattle.compress_moves.proofs.fill_generation.Given as goal
 
 abbrev pub invariant-loop-i : goal.invariant-loop-i

@@ -1,7 +1,5 @@
-use Prim.Native.Nat.{◌-◌}
 use native.Mathlib.Omega.{arith}
-use borrow.Author.Rules.{rules}
-use Rattle.compress_moves.proofs.Moving.{Moving, moving_starts, moving_slot, moving_prev, moving_next, moving_goes_on, moving_done, all_in_place}
+use Rattle.compress_moves.proofs.Moving.{moving_starts, moving_slot, moving_prev, moving_next, moving_goes_on, moving_done, all_in_place}
 use Rattle.compress_moves.proofs.move_down.Goals as goal
 
 pub returns-then-links-n : goal.returns-then-links-n

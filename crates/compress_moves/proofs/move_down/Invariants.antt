@@ -2,9 +2,7 @@
 -- links are at the front, and the words behind them are the old ones, since every link is past its place. The measure is what is left of the
 -- links. Assumes nothing.
 use Prim.Native.Nat.{◌-◌}
-use native.Mathlib.Omega.{arith}
-use borrow.Author.Rules.{rules}
-use Rattle.compress_moves.proofs.Moving.{Moving, moving_starts, moving_slot, moving_prev, moving_next, moving_goes_on, moving_done, all_in_place}
+use Rattle.compress_moves.proofs.Moving.{Moving}
 use Rattle.compress_moves.proofs.move_down.Given as goal
 
 abbrev pub invariant-loop-k : goal.invariant-loop-k

@@ -1,7 +1,6 @@
 -- `compress_moves::move_link` meets its contract: the words of slot s have index s - 1, and are read before any is written. Assumes nothing.
 use mathlib.Core.Path.{◌≡◌, refl, ap, ◌∙◌}
 use native.Mathlib.Omega.{arith}
-use borrow.Author.Rules.{rules}
 use Rattle.definitions.specs.Columns.{at}
 use Rattle.definitions.proofs.Columns.{at_place}
 use Rattle.compress_moves.proofs.move_link.Goals as goal

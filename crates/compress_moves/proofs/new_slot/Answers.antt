@@ -1,6 +1,5 @@
 -- `compress_moves::new_slot` meets its contract: the word of slot s has index s - 1, and slot 0 reads 0. Assumes nothing.
 use mathlib.Core.Path.{sym}
-use borrow.Author.Rules.{rules}
 use Rattle.definitions.proofs.Columns.{at_zero, at_place}
 use Rattle.compress_moves.proofs.new_slot.Goals as goal
 

@@ -1,6 +1,5 @@
 use mathlib.Core.Path.{refl}
 use native.Mathlib.Omega.{arith}
-use Prim.Native.Nat.{◌<◌}
 use Rattle.definitions.specs.Arena.{arena}
 use Rattle.compress_moves.proofs.Numbers.{numbering_starts, numbering_within, numbering_skips, numbering_names, numbering_done, numbered_any}
 use Rattle.compress_moves.proofs.number_links.Goals as goal
@@ -26,8 +25,8 @@ loop-count-preserved c =
     let more = numbering_within c.loop-count.invariant c.requires.2 c.loop-count-test.true in
     let words = c.tell_move.ensures in
     elim c.if-old-ne0.branch [
-      then-old-ne0 w ↦ rw (w.count-is, w.number-is, words) (numbering_names c.loop-count.invariant more w.if-old-ne0.true c.requires.1 c.requires.2 c.requires.3)
-    | else-old-ne0 w ↦ rw (w.count-is, w.number-is, words) (numbering_skips c.loop-count.invariant more c.requires.1 w.if-old-ne0.false c.loop-count-test.true)
+      | then-old-ne0 w ↦ rw (w.count-is, w.number-is, words) (numbering_names c.loop-count.invariant more w.if-old-ne0.true c.requires.1 c.requires.2 c.requires.3)
+      | else-old-ne0 w ↦ rw (w.count-is, w.number-is, words) (numbering_skips c.loop-count.invariant more c.requires.1 w.if-old-ne0.false c.loop-count-test.true)
     ]
 
 pub returns : goal.returns

@@ -1,13 +1,9 @@
 -- `compress_moves::number_links` meets its contract. The loop's invariant: the links in the first i slots are numbered and reported, and the
 -- generations from place i on are the old ones. While links are left so are slots, and the measure is how many. Assumes nothing.
-use Prim.Native.Nat.{ℕ, ◌-◌, ◌<◌}
-use mathlib.Core.Path.{refl}
-use mathlib.Core.Logic.{⊎_elim}
+use Prim.Native.Nat.{ℕ, ◌-◌}
 use mathlib.Core.List.{List, []}
-use native.Mathlib.Omega.{arith}
-use borrow.Author.Rules.{rules}
 use Rattle.definitions.specs.Arena.{Arena, arena}
-use Rattle.compress_moves.proofs.Numbers.{Numbering, numbering_starts, numbering_within, numbering_skips, numbering_names, numbering_done, numbered_any}
+use Rattle.compress_moves.proofs.Numbers.{Numbering}
 use Rattle.compress_moves.proofs.number_links.Given as goal
 
 -- an arena with this generation column; nothing else of it is read

@@ -1,5 +1,4 @@
 -- `compress_moves::renew_generation` meets its contract, in each of its three ways. Assumes nothing.
-use borrow.Author.Rules.{rules}
 use Rattle.compress_moves.proofs.Renewing.{renewed_by_reset, renewed_by_raise, not_renewed}
 use Rattle.compress_moves.proofs.renew_generation.Goals as goal
 

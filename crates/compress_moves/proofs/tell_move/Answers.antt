@@ -3,7 +3,6 @@ use Prim.Native.Nat.{◌*◌}
 use mathlib.Core.Path.{refl}
 use native.Mathlib.Omega.{arith}
 use native.Mathlib.Numerals.{add-one, add-two, add-three}
-use borrow.Author.Rules.{rules}
 use lib.ListN.{length-set}
 use Rattle.compress_moves.proofs.tell_move.Goals as goal
 

@@ -1,10 +1,7 @@
 -- `compress_with::compress_columns` meets its contract: numbering, moving down, stamping and popping, one after the other, are the definition's
 -- `relocate` (Relocated). Assumes nothing.
-use Prim.Native.Nat.{◌≤◌}
 use mathlib.Core.List.{[]}
 use native.Mathlib.Omega.{arith}
-use borrow.Author.Rules.{rules}
-use Rattle.definitions.specs.Arena.{link_slots}
 use Rattle.definitions.proofs.Slots.{links_and_free}
 use Rattle.compress_with.proofs.Relocated.{movable, relocated}
 use Rattle.compress_with.proofs.compress_columns.Goals as goal

@@ -1,12 +1,10 @@
 -- `compress_with::compress_with` meets its contract: the generation is renewed, the columns are compressed in it, and the header is set. The check
 -- gives every bound (Passed). Assumes nothing.
-use mathlib.Core.Path.{◌≡◌, refl, ◌∙◌}
+use mathlib.Core.Path.{refl, ◌∙◌}
 use native.Mathlib.Omega.{arith}
 use lib.Dec.{lit<}
-use lib.ListN.{length, length-set}
-use Rattle.definitions.specs.Arena.{Arena, capacity_limit, header_words}
-use Rattle.definitions.specs.Lent.{lent}
-use Rattle.definitions.proofs.Shaped.{Shaped, shaped}
+use lib.ListN.{length-set}
+use Rattle.definitions.proofs.Shaped.{shaped}
 use Rattle.compress_with.proofs.Passed.{compressible, refused, renewed_word, compressed}
 use Rattle.compress_with.proofs.compress_with.Goals as goal
 

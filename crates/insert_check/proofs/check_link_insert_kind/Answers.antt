@@ -1,7 +1,6 @@
 -- `insert_check::check_link_insert_kind` meets its contract. Each kind finds the links that it names, by pointer or by slot, and what it asks of them; a link that is there stands
 -- in the columns. Assumes nothing.
 use mathlib.Core.Path.{refl}
-use borrow.Author.Rules.{rules}
 use Rattle.definitions.specs.Insert.{slot_of, place_of}
 use Rattle.insert_check.proofs.Named.{in_prev, in_next, first_in_next, second_in_prev, at_end, at_start, behind, in_front, at_joint, bridged}
 use Rattle.insert_check.proofs.check_link_insert_kind.Goals as goal

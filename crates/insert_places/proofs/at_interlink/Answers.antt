@@ -1,6 +1,5 @@
 -- `insert_places::at_interlink` meets its contract: a link that is there stands in the column. Assumes nothing.
 use mathlib.Core.Path.{refl}
-use borrow.Author.Rules.{rules}
 use Rattle.definitions.specs.Insert.{place_if}
 use Rattle.insert_places.proofs.at_interlink.Goals as goal
 

@@ -1,5 +1,4 @@
 -- `insert_places::bridge` meets its contract: two tests, of which the second is made where the first holds. Assumes nothing.
-use borrow.Author.Rules.{rules}
 use Rattle.insert_places.proofs.Parts.{both_lack, one_has}
 use Rattle.insert_places.proofs.bridge.Goals as goal
 

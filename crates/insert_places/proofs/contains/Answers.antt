@@ -1,7 +1,6 @@
 -- `insert_places::contains` meets its contract: a pointer is stale, or there is its link. Assumes nothing.
 use mathlib.Core.Path.{ap}
 use mathlib.Core.Bool.{not}
-use borrow.Author.Rules.{rules}
 use Rattle.definitions.specs.Insert.{is_there}
 use Rattle.chain_traits.specs.Read.{stale_in}
 use Rattle.insert_places.specs.Places.{there_in}

@@ -1,6 +1,5 @@
 -- `insert_places::contains_inx` meets its contract: its tests are those of a link. Assumes nothing.
 use mathlib.Core.Path.{sym}
-use borrow.Author.Rules.{rules}
 use Rattle.definitions.proofs.Slots.{allocated_past}
 use Rattle.definitions.specs.Insert.{is_there}
 use Rattle.insert_places.proofs.Parts.{zero_no_link, within_link}

@@ -1,6 +1,5 @@
 -- `insert_places::lacks` meets its contract: a link that is there stands in the column. Assumes nothing.
 use mathlib.Core.Path.{refl}
-use borrow.Author.Rules.{rules}
 use Rattle.insert_places.proofs.lacks.Goals as goal
 
 pub slot_at-requires : goal.slot_at-requires

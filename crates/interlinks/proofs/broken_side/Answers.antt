@@ -1,9 +1,7 @@
 -- `interlinks::broken_side` meets its contract. Its test is that of the definition, read at place x - 1. Assumes nothing.
-use mir.Facts.{Fits-widen}
 use mathlib.Core.Path.{sym, ◌∙◌}
 use native.Mathlib.Omega.{arith}
 use Rattle.interlinks.proofs.Neighbours.{side_next, side_prev}
-use borrow.Author.Rules.{rules}
 use Rattle.interlinks.proofs.broken_side.Goals as goal
 
 pub returns-then-names_back : goal.returns-then-names_back

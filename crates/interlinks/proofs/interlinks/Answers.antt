@@ -3,7 +3,6 @@
 use mathlib.Core.Path.{sym}
 use native.Mathlib.Omega.{arith}
 use Rattle.interlinks.proofs.Passes.{passes_none, passes_first}
-use borrow.Author.Rules.{rules}
 use Rattle.interlinks.proofs.interlinks.Goals as goal
 
 pub returns-then-end-eq0 : goal.returns-then-end-eq0

@@ -1,8 +1,6 @@
 -- `interlinks::leads_to` meets its contract. Its tests are those of the definition, read at place s - 1. Assumes nothing.
-use mir.Facts.{Fits-widen}
 use native.Mathlib.Omega.{arith}
 use Rattle.interlinks.proofs.Passes.{leads_past, leads_read}
-use borrow.Author.Rules.{rules}
 use Rattle.interlinks.proofs.leads_to.Goals as goal
 
 pub returns-then-n-s : goal.returns-then-n-s

@@ -1,8 +1,6 @@
 -- `interlinks::names_back` meets its contract. Its tests are those of the definition, read at place s - 1. Assumes nothing.
-use mir.Facts.{Fits-widen}
 use Rattle.definitions.proofs.Tests.{tests}
 use Rattle.interlinks.proofs.Neighbours.{names_back_read}
-use borrow.Author.Rules.{rules}
 use Rattle.interlinks.proofs.names_back.Goals as goal
 
 pub returns-then-s-eq0 : goal.returns-then-s-eq0

@@ -1,9 +1,7 @@
 -- `interlinks::next_fine` meets its contract. Its tests are those of the definition, read at place x - 1, in another order. Assumes nothing.
-use mir.Facts.{Fits-widen}
 use mathlib.Core.Path.{◌∙◌}
 use native.Mathlib.Omega.{arith}
 use Rattle.interlinks.proofs.Passes.{side_none, side_no_link, side_named}
-use borrow.Author.Rules.{rules}
 use Rattle.interlinks.proofs.next_fine.Goals as goal
 
 pub returns-then-s-eq0 : goal.returns-then-s-eq0

@@ -1,9 +1,6 @@
-use Prim.Native.Nat.{◌-◌, ◌≤◌, ◌<◌}
 use native.Mathlib.Omega.{arith}
 use Rattle.definitions.proofs.Tests.{tests}
-use Rattle.interlinks.specs.Sides.{SidesFine}
 use Rattle.interlinks.proofs.Passes.{sides_more}
-use borrow.Author.Rules.{rules}
 use Rattle.interlinks.proofs.next_sides.Goals as goal
 
 pub loop-x-init : goal.loop-x-init

@@ -1,11 +1,7 @@
 -- `interlinks::next_sides` meets its contract. The loop's invariant: the next side is fine at every slot below x. The measure is what is left of the slots
 -- below m. Assumes nothing.
 use Prim.Native.Nat.{◌-◌, ◌≤◌, ◌<◌}
-use native.Mathlib.Omega.{arith}
-use Rattle.definitions.proofs.Tests.{tests}
 use Rattle.interlinks.specs.Sides.{SidesFine}
-use Rattle.interlinks.proofs.Passes.{sides_more}
-use borrow.Author.Rules.{rules}
 use Rattle.interlinks.proofs.next_sides.Given as goal
 
 abbrev pub invariant-loop-x : goal.invariant-loop-x

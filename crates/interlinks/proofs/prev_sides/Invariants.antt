@@ -1,12 +1,7 @@
 -- `interlinks::prev_sides` meets its contract. The loop's invariant: of the first i slots so many are links with a next and so many links with a prev, and the prev
 -- side of each is fine. The measure is what is left of the n slots. Assumes nothing.
-use Prim.Native.Nat.{◌-◌, ◌≤◌}
-use mathlib.Core.Logic.{inl, inr, ⊎_elim}
-use native.Mathlib.Omega.{arith}
-use mir.Facts.{Fits-widen}
-use Rattle.definitions.proofs.Tests.{came_true, came_false}
-use Rattle.interlinks.proofs.Passes.{Going, going_none, going_most, going_free, going_start, going_led, prev_stopped, prev_passed, prev_passed_alone}
-use borrow.Author.Rules.{rules}
+use Prim.Native.Nat.{◌-◌}
+use Rattle.interlinks.proofs.Passes.{Going}
 use Rattle.interlinks.proofs.prev_sides.Given as goal
 
 abbrev pub invariant-loop-i : goal.invariant-loop-i

@@ -1,6 +1,5 @@
 -- `level_one_due::chain_arena_due_count` meets its contract. After the check it hands on what `chain_due::due_count` answers. Assumes nothing.
 use mathlib.Core.Path.{◌∙◌}
-use borrow.Author.Rules.{rules}
 use Rattle.definitions.specs.Calls.{accepted}
 use Rattle.answers.proofs.Exports.{answers_told, answers_refused, whole}
 use Rattle.level_one_due.proofs.chain_arena_due_count.Goals as goal

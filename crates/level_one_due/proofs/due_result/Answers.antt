@@ -1,6 +1,5 @@
 -- `level_one_due::due_result` meets its contract. Each case has its number and field by the definition. Assumes nothing.
 use mathlib.Core.Path.{refl}
-use borrow.Author.Rules.{rules}
 use Rattle.level_one_due.proofs.due_result.Goals as goal
 
 pub returns-in-Done : goal.returns-in-Done

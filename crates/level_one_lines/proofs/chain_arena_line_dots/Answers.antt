@@ -2,7 +2,6 @@
 use Prim.Native.Nat.{ℕ}
 use mathlib.Core.Path.{ap₂, ◌∙◌}
 use mathlib.Core.List.{[], ◌∷◌}
-use borrow.Author.Rules.{rules}
 use Rattle.definitions.specs.Clock.{told}
 use Rattle.definitions.proofs.Clock.{dots_of, no_line}
 use Rattle.level_one_lines.proofs.chain_arena_line_dots.Goals as goal

@@ -2,7 +2,6 @@
 use mathlib.Core.Path.{ap, ◌∙◌}
 use mathlib.Core.List.{[], ◌∷◌}
 use Prim.Native.Nat.{ℕ}
-use borrow.Author.Rules.{rules}
 use Rattle.definitions.specs.Clock.{told}
 use Rattle.definitions.proofs.Clock.{of_dot, no_dot}
 use Rattle.level_one_lines.proofs.chain_arena_line_of_dot.Goals as goal

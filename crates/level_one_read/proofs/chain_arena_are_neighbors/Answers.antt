@@ -1,5 +1,4 @@
 -- `level_one_read::chain_arena_are_neighbors` meets its contract. After the check it hands on what `chain_traits::are_neighbors` answers. Assumes nothing.
-use borrow.Author.Rules.{rules}
 use Rattle.definitions.specs.Calls.{accepted}
 use Rattle.answers.proofs.Exports.{answers_passed, answers_refused, is_shaped}
 use Rattle.level_one_read.proofs.Replies.{neighbors_reply}

@@ -1,5 +1,4 @@
 -- `level_one_read::chain_arena_get_link` meets its contract. After the check it hands on what `chain_traits::get_link` answers. Assumes nothing.
-use borrow.Author.Rules.{rules}
 use Rattle.definitions.specs.Calls.{accepted}
 use Rattle.answers.proofs.Exports.{answers_passed, answers_refused, passed}
 use Rattle.level_one_read.proofs.chain_arena_get_link.Goals as goal

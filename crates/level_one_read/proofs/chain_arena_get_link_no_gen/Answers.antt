@@ -1,5 +1,4 @@
 -- `level_one_read::chain_arena_get_link_no_gen` meets its contract. After the check it hands on what `chain_traits::get_link_no_gen` answers. Assumes nothing.
-use borrow.Author.Rules.{rules}
 use Rattle.definitions.specs.Calls.{accepted}
 use Rattle.answers.proofs.Exports.{answers_passed, answers_refused, is_shaped}
 use Rattle.level_one_read.proofs.chain_arena_get_link_no_gen.Goals as goal

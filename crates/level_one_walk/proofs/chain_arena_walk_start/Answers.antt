@@ -1,5 +1,4 @@
 -- `level_one_walk::chain_arena_walk_start` meets its contract. After the check it hands on what `chain_iterators::advancer_chain` answers. Assumes nothing.
-use borrow.Author.Rules.{rules}
 use Rattle.definitions.specs.Calls.{accepted}
 use Rattle.answers.proofs.Exports.{answers_passed, answers_refused, is_shaped}
 use Rattle.level_one_walk.proofs.chain_arena_walk_start.Goals as goal

@@ -1,5 +1,4 @@
 -- `level_one_walk::chain_arena_walk_step` meets its contract. After the check it hands on what `chain_iterators::ChainPtrAdvancer::advance` answers. Assumes nothing.
-use borrow.Author.Rules.{rules}
 use Rattle.definitions.specs.Calls.{accepted}
 use Rattle.answers.proofs.Exports.{answers_passed, answers_refused, is_shaped}
 use Rattle.level_one_walk.proofs.Replies.{step_reply}

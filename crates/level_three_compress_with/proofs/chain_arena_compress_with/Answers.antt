@@ -1,5 +1,4 @@
 -- `level_three_compress_with::chain_arena_compress_with` meets its contract. An arena that the check refuses is as it was; of one that passes `compress_with::compress_with` says the rest. Assumes nothing.
-use borrow.Author.Rules.{rules}
 use Rattle.definitions.specs.Calls.{accepted}
 use Rattle.answers.proofs.Exports.{answers_passed, answers_refused, passed}
 use Rattle.level_three_compress_with.proofs.chain_arena_compress_with.Goals as goal

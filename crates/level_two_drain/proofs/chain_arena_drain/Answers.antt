@@ -1,6 +1,5 @@
 -- `level_two_drain::chain_arena_drain` meets its contract. An arena that the check refuses is as it was; one that passes is well formed, and `chain_drain::drain` says the rest. Assumes nothing.
 use mathlib.Core.Path.{◌∙◌}
-use borrow.Author.Rules.{rules}
 use Rattle.definitions.specs.Calls.{accepted}
 use Rattle.answers.proofs.Exports.{answers_told, answers_refused, whole}
 use Rattle.level_two_drain.proofs.chain_arena_drain.Goals as goal

@@ -1,6 +1,5 @@
 -- `level_two_drain::drain_result` meets its contract. Each case has its number and fields by the definition. Assumes nothing.
 use mathlib.Core.Path.{refl}
-use borrow.Author.Rules.{rules}
 use Rattle.level_two_drain.proofs.drain_result.Goals as goal
 
 pub returns-in-Done : goal.returns-in-Done

@@ -1,5 +1,4 @@
 -- `level_two_edits::chain_arena_connect` meets its contract. An arena that the check refuses is as it was; one that passes is well formed, and `chain_edits::connect` says the rest. Assumes nothing.
-use borrow.Author.Rules.{rules}
 use Rattle.definitions.specs.Calls.{accepted}
 use Rattle.answers.proofs.Exports.{answers_passed, answers_refused, whole}
 use Rattle.level_two_edits.proofs.chain_arena_connect.Goals as goal

@@ -1,5 +1,4 @@
 -- `level_two_generation::chain_arena_canonicalize_freelist` meets its contract. An arena that the check refuses is as it was; of one that passes `base_freelist::canonicalize_freelist` says the rest. Assumes nothing.
-use borrow.Author.Rules.{rules}
 use Rattle.definitions.specs.Calls.{accepted}
 use Rattle.answers.proofs.Exports.{answers_passed, answers_refused, passed}
 use Rattle.level_two_generation.proofs.chain_arena_canonicalize_freelist.Goals as goal

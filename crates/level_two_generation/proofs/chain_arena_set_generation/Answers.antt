@@ -1,5 +1,4 @@
 -- `level_two_generation::chain_arena_set_generation` meets its contract. An arena that the check refuses is as it was; one that passes has a header of four words, and `base_freelist::set_generation` says the rest. Assumes nothing.
-use borrow.Author.Rules.{rules}
 use Rattle.definitions.specs.Calls.{accepted}
 use Rattle.answers.proofs.Exports.{answers_passed, answers_refused, header_length}
 use Rattle.level_two_generation.proofs.chain_arena_set_generation.Goals as goal

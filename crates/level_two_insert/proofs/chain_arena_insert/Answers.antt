@@ -1,6 +1,5 @@
 -- `level_two_insert::chain_arena_insert` meets its contract. An arena that the check refuses is as it was; one that passes is well formed, and `chain_insertion::insert_coded` says the rest. Assumes nothing.
 use mathlib.Core.Path.{◌∙◌}
-use borrow.Author.Rules.{rules}
 use Rattle.definitions.specs.Calls.{accepted}
 use Rattle.answers.proofs.Exports.{answers_told, answers_refused, whole}
 use Rattle.level_two_insert.proofs.chain_arena_insert.Goals as goal

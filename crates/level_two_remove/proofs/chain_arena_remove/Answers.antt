@@ -1,6 +1,5 @@
 -- `level_two_remove::chain_arena_remove` meets its contract. An arena that the check refuses is as it was; one that passes is well formed, and `chain_removal::remove` says the rest. Assumes nothing.
 use mathlib.Core.Path.{◌∙◌}
-use borrow.Author.Rules.{rules}
 use Rattle.definitions.specs.Calls.{accepted}
 use Rattle.answers.proofs.Exports.{answers_told, answers_refused, whole}
 use Rattle.level_two_remove.proofs.chain_arena_remove.Goals as goal

@@ -1,5 +1,4 @@
 -- `level_two_run::chain_arena_run` meets its contract. An arena that the check refuses is as it was; one that passes is well formed, and `chain_run::run` says the rest. Assumes nothing.
-use borrow.Author.Rules.{rules}
 use Rattle.definitions.specs.Calls.{accepted}
 use Rattle.answers.proofs.Exports.{answers_passed, answers_refused, whole}
 use Rattle.level_two_run.proofs.chain_arena_run.Goals as goal

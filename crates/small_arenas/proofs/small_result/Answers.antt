@@ -1,6 +1,5 @@
 -- `small_arenas::small_result` meets its contract. Each case has its number and fields by the definition. Assumes nothing.
 use mathlib.Core.Path.{refl}
-use borrow.Author.Rules.{rules}
 use Rattle.small_arenas.proofs.small_result.Goals as goal
 
 pub returns-in-Found : goal.returns-in-Found

@@ -1,6 +1,5 @@
 -- `small_layout::lay` meets its contract: each column gets its words, and the header its own. Assumes nothing.
 use native.Mathlib.Omega.{arith}
-use borrow.Author.Rules.{rules}
 use Rattle.definitions.specs.Arena.{arena}
 use Rattle.all_small.proofs.Packed.{unpacked}
 use Rattle.small_layout.proofs.Laying.{arena_laid}

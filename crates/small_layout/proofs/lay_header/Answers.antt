@@ -1,5 +1,4 @@
 -- `small_layout::lay_header` meets its contract. Assumes nothing.
-use borrow.Author.Rules.{rules}
 use Rattle.all_small.proofs.Packed.{unpacked}
 use Rattle.small_layout.proofs.Laying.{header_laid}
 use Rattle.small_layout.proofs.lay_header.Goals as goal

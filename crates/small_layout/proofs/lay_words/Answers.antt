@@ -1,6 +1,4 @@
-use Prim.Native.Nat.{◌-◌}
 use native.Mathlib.Omega.{arith}
-use borrow.Author.Rules.{rules}
 use Rattle.small_layout.proofs.Laying as laying
 use Rattle.small_layout.proofs.lay_words.Goals as goal
 

@@ -1,8 +1,6 @@
 -- `small_layout::lay_words` meets its contract. The loop's invariant is `Laying`: the digits of the slots that were passed stand at the front. The measure is
 -- what is left of the slots. Assumes nothing.
 use Prim.Native.Nat.{◌-◌}
-use native.Mathlib.Omega.{arith}
-use borrow.Author.Rules.{rules}
 use Rattle.small_layout.proofs.Laying as laying
 use Rattle.small_layout.proofs.lay_words.Given as goal
 

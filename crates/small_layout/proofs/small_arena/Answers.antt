@@ -1,8 +1,6 @@
 -- `small_layout::small_arena` meets its contract. Its tests are those of the definition, in their order. Assumes nothing.
-use Prim.Native.Nat.{ℕ}
 use mathlib.Core.Path.{sym, ◌∙◌}
-use borrow.Author.Rules.{rules}
-use Rattle.definitions.specs.Arena.{Arena, arena, capacity_limit}
+use Rattle.definitions.specs.Arena.{capacity_limit}
 use Rattle.small_layout.proofs.Answers.{answers_misshapen, answers_past, answers_short, room_for, answers_found}
 use Rattle.small_layout.proofs.small_arena.Goals as goal
 

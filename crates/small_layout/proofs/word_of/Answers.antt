@@ -1,6 +1,5 @@
 -- `small_layout::word_of` meets its contract. Assumes nothing.
 use mathlib.Core.Path.{refl}
-use borrow.Author.Rules.{rules}
 use Rattle.all_small.proofs.Packed.{digit}
 use Rattle.small_layout.proofs.word_of.Goals as goal
 

@@ -1,5 +1,4 @@
 -- `small_table::packed_arena` meets its contract: the table is the list of all small arenas, each packed. Assumes nothing.
-use borrow.Author.Rules.{rules}
 use Rattle.all_small.proofs.Table.{table_entry}
 use Rattle.small_table.proofs.packed_arena.Goals as goal
 

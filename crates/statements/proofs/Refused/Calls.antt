@@ -1,6 +1,6 @@
 -- What the theorems about every call say: `Unchanged`, `AnswerWord`, `OneCommand`. For each field a wrong reply that it alone refuses.
 use Prim.Native.Nat.{ℕ}
-use mathlib.Core.Path.{◌≡◌, ap}
+use mathlib.Core.Path.{ap}
 use mathlib.Core.Logic.{inl, inr}
 use mathlib.Core.List.{List, [], ◌∷◌}
 use native.Mathlib.Omega.{arith}

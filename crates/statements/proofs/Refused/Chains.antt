@@ -1,13 +1,13 @@
 -- The words in which canonical compression is told: chains, rotations, listings, renamings, pieces, pairings. For each field a wrong list, arena or column that it
 -- alone refuses, or what it gives at a small arena.
-use Prim.Native.Nat.{ℕ, zero, suc, ◌≤◌, ◌<◌}
+use Prim.Native.Nat.{ℕ, zero, suc, ◌<◌}
 use mathlib.Core.Path.{◌≡◌, refl, sym, ap, subst, ◌∙◌}
 use mathlib.Core.Logic.{inl, inr}
-use mathlib.Core.Bool.{true, false, true≢false}
+use mathlib.Core.Bool.{true, true≢false}
 use mathlib.Core.List.{List, [], ◌∷◌, ◌++◌, map}
 use native.Mathlib.Omega.{arith}
 use lib.ListN.{length, length-append, get_or}
-use Rattle.definitions.specs.Columns.{at, count, first_or, last_or, slots_from, Linked}
+use Rattle.definitions.specs.Columns.{at, first_or, last_or, slots_from, Linked}
 use Rattle.definitions.specs.Arena.{Arena, arena, is_link, allocated}
 use Rattle.statements.specs.Chains.{Kind, opened, closed, IsOpen, IsClosed, Chain, IsChain, Rotation, Like, Alike, nth, Listing, OnOneChain, Renaming, extended, cut, marked, pieces, replaced, Paired, HoldTheSame}
 use Rattle.definitions.proofs.Slots.{count_nil, count_here, allocated_some, allocated_within}

@@ -1,10 +1,10 @@
 -- What canonical compression keeps: the fields of `Agree`, `LiesFrom`, `OfOne` and `Unmoved`, each with a wrong result that it alone refuses; and what each field
 -- of `Demand3` gives at one small arena.
-use Prim.Native.Nat.{ℕ, zero, suc, ◌+◌, ◌≤◌, ◌<◌}
+use Prim.Native.Nat.{ℕ, zero, suc, ◌≤◌}
 use mathlib.Core.Path.{◌≡◌, refl, sym, ap}
 use mathlib.Core.Logic.{inl, inr}
 use mathlib.Core.Bool.{Bool, true, false, true≢false}
-use mathlib.Core.List.{List, [], ◌∷◌, map}
+use mathlib.Core.List.{List, [], ◌∷◌}
 use native.Mathlib.Omega.{arith}
 use lib.ListN.{length, get_or}
 use Rattle.definitions.specs.Columns.{at, put, first_or, last_or, slots_from, keep, settled, Linked}
@@ -15,9 +15,9 @@ use Rattle.definitions.specs.Read.{pointer, stale}
 use Rattle.definitions.specs.Edit.{next_generation, overflows, connect}
 use Rattle.definitions.specs.Remove.{joined, vacated, removed, remove, threaded, canonicalize_freelist}
 use Rattle.definitions.specs.Compress.{raises, compress_generation, compress_number, exchanged, exchange_words, exchange_links, exchange_slots, put_at_i, lowest_from, start_of, lay_chain, lay_chains, laid_out, canonical_arena, compress_canonical}
-use Rattle.statements.specs.Chains.{IsOpen, Chain, IsChain, Like, Alike, nth, Listing, OnOneChain, extended, cut, marked, pieces, replaced, Paired, HoldTheSame}
+use Rattle.statements.specs.Chains.{IsOpen, Chain, IsChain, Like, Alike, nth, Listing, OnOneChain, extended, cut, marked, pieces, Paired, HoldTheSame}
 use Rattle.definitions.specs.Calls.{Call, Made, Check, Connect, Remove, CanonicalizeFreelist, CompressCanonical, accepted, reply_to, replies_to, arena_after}
-use Rattle.statements.specs.Demand3.{Accepted, Every, Agree, Further, made, LiesFrom, compress, Compressed, OfOne, Unmoved, Demand3}
+use Rattle.statements.specs.Demand3.{Accepted, Every, Agree, Further, LiesFrom, compress, Compressed, OfOne, Unmoved, Demand3}
 use Rattle.definitions.proofs.Count.{in_only, in_cases}
 use Rattle.statements.proofs.Refused.Chains.{open_of, one, lone, pair, on_one_chain_only, listing_all_refused, renaming_payload_refused}
 

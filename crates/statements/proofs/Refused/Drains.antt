@@ -1,11 +1,11 @@
 -- What a drain promises: for each field of `Untouched` and `DrainsChain` a wrong reply that it alone refuses. And the overflow of a removal, computed.
-use Prim.Native.Nat.{ℕ, zero, suc, ◌≤◌, ◌<◌}
+use Prim.Native.Nat.{ℕ, zero, suc, ◌<◌}
 use mathlib.Core.Path.{◌≡◌, refl, sym, ap, ◌∙◌}
-use mathlib.Core.Bool.{Bool, true, false, true≢false}
+use mathlib.Core.Bool.{true, false, true≢false}
 use mathlib.Core.List.{List, [], ◌∷◌}
 use native.Mathlib.Omega.{arith}
 use lib.ListN.{length, get_or}
-use Rattle.definitions.specs.Columns.{at, put, count, first_or, Linked}
+use Rattle.definitions.specs.Columns.{at, put, first_or, Linked}
 use Rattle.definitions.specs.Arena.{Arena, arena, allocated}
 use Rattle.statements.specs.Chains.{IsOpen, IsChain}
 use Rattle.definitions.specs.Edit.{next_generation, overflows}

@@ -1,12 +1,12 @@
 -- The order of a walk: for each field of `WalkOrder` and `Walks` a list that it alone refuses. And a walk that turns, step by step.
 use Prim.Native.Nat.{ℕ, zero, suc, ◌≤◌}
-use mathlib.Core.Path.{◌≡◌, refl, sym, ap, subst, ◌∙◌}
+use mathlib.Core.Path.{◌≡◌, refl, sym, ap}
 use mathlib.Core.Logic.{inl, inr}
-use mathlib.Core.Bool.{true, false, true≢false}
-use mathlib.Core.List.{List, [], ◌∷◌, ◌++◌, reverse, reverse_aux, append-nil}
+use mathlib.Core.Bool.{true, true≢false}
+use mathlib.Core.List.{List, [], ◌∷◌, ◌++◌, reverse, reverse_aux}
 use native.Mathlib.Omega.{arith}
 use lib.ListN.{length, length-append, get_or}
-use Rattle.definitions.specs.Columns.{at, count, first_or, Linked}
+use Rattle.definitions.specs.Columns.{at, first_or, Linked}
 use Rattle.definitions.specs.Arena.{Arena, arena, is_link, allocated}
 use Rattle.statements.specs.Chains.{Kind, opened, closed, IsOpen, IsChain}
 use Rattle.definitions.specs.Walk.{start_at, onward, step, walked}

@@ -14,7 +14,7 @@ use Rattle.statements.specs.Chains.{opened, closed, IsOpen, IsClosed, Chain, IsC
 use Rattle.definitions.specs.Reply.{Reply}
 use Rattle.definitions.specs.Walk.{start_at, walked}
 use Rattle.definitions.specs.Calls.{CompressCanonical, Made, reply_to, replies_to, arena_after}
-use Rattle.statements.specs.Demand3.{Accepted, Every, Agree, Further, made, LiesFrom, Compressed, OfOne, Unmoved, Demand3}
+use Rattle.statements.specs.Demand3.{Accepted, Every, Agree, Further, LiesFrom, Compressed, OfOne, Unmoved, Demand3}
 use Rattle.statements.specs.WalkOrder.{WalkOrder, Walks}
 use Rattle.definitions.specs.Report.{item_slots}
 use Rattle.statements.specs.DrainsChain.{Untouched, overflows_at, DrainsChain}

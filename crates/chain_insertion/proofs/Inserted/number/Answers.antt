@@ -1,6 +1,5 @@
 -- `chain_insertion::Inserted::number` meets its contract. Each case has its number by the definition. Assumes nothing.
 use mathlib.Core.Path.{refl}
-use borrow.Author.Rules.{rules}
 use Rattle.chain_insertion.proofs.Inserted.number.Goals as goal
 
 pub returns-in-Done : goal.returns-in-Done

@@ -2,7 +2,6 @@
 use mathlib.Core.Path.{ap, ◌∙◌}
 use native.Mathlib.Omega.{arith}
 use native.Mathlib.Nat.{pos_of_ne-zero}
-use borrow.Author.Rules.{rules}
 use Rattle.definitions.specs.Walk.{none}
 use Rattle.definitions.proofs.Steps.{link_slot, step_spent, step_ends, step_answers}
 use Rattle.chain_iterators.proofs.Chain.{on_chain_link, off_chain}

@@ -2,7 +2,6 @@
 -- is within every column. Assumes nothing.
 use mathlib.Core.Path.{◌∙◌}
 use native.Mathlib.Omega.{arith}
-use borrow.Author.Rules.{rules}
 use Rattle.definitions.proofs.Steps.{link_slot, onward_back, onward_turns, onward_round, onward_ahead}
 use Rattle.chain_iterators.proofs.ChainPtrAdvancer.onward.Goals as goal
 

@@ -1,7 +1,6 @@
 -- `frame_clock::Dot::line` meets its contract: the quotient by 1,024 of three times the dot is the line or the line before it, and the table decides.
 -- Assumes nothing.
 use native.Mathlib.Omega.{arith}
-use borrow.Author.Rules.{rules}
 use Rattle.definitions.specs.Clock.{first_dot, line_of}
 use Rattle.frame_clock.proofs.Dot.line.Goals as goal
 

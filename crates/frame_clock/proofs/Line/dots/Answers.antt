@@ -1,6 +1,5 @@
 -- `frame_clock::Line::dots` meets its contract. Assumes nothing.
 use native.Mathlib.Omega.{arith}
-use borrow.Author.Rules.{rules}
 use Rattle.definitions.specs.Clock.{first_dot, last_dot}
 use Rattle.frame_clock.proofs.Line.dots.Goals as goal
 

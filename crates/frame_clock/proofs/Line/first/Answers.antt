@@ -1,5 +1,4 @@
 -- `frame_clock::Line::first` meets its contract: the table is the computed one. Assumes nothing.
-use borrow.Author.Rules.{rules}
 use Rattle.definitions.specs.Clock.{first_dot}
 use Rattle.frame_clock.proofs.Starts.{entry}
 use Rattle.frame_clock.proofs.Line.first.Goals as goal

@@ -1,6 +1,5 @@
 -- `links::InvalidationResult::number` meets its contract. Each case has its number by the definition. Assumes nothing.
 use mathlib.Core.Path.{refl}
-use borrow.Author.Rules.{rules}
 use Rattle.links.proofs.InvalidationResult.number.Goals as goal
 
 pub returns-in-Success : goal.returns-in-Success

@@ -1,6 +1,5 @@
 -- `ptr::Gen::generational_inc` meets its contract. Its one test is the test of both definitions, and below the largest generation the sum fits.
 -- Assumes nothing.
-use borrow.Author.Rules.{rules}
 use Rattle.definitions.specs.Edit.{next_generation, overflows}
 use Rattle.definitions.proofs.Tests.{tests}
 use Rattle.ptr.proofs.Gen.generational_inc.Goals as goal
