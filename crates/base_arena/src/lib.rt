@@ -119,7 +119,7 @@ pub fn freelist_of_all(next: &[u32], n: usize, root: usize) -> u32
 {
     let mut visited: usize = 0;
     let mut slot: usize = root;
-    while visited < n + 2 {
+    while visited < n + 2usize {
         if slot == 0 {
             return 6;
         }
