@@ -9,8 +9,8 @@ use std::process::{Command, Output, Stdio};
 use crate::sold::ARCHIVES;
 use crate::{Outside, exports_of};
 
-/// A stand-in for `rt`: it proves the crates of a line of crates.txt, one of them without a word since it was proved before, and compiles an archive that is
-/// the texts of these crates.
+/// A stand-in for `rt`: it proves the crates of a line of crates.txt, one of them with no word on its proof, as of a library, and compiles an archive that is the
+/// texts of these crates.
 const RT: &str = r#"#!/usr/bin/env bash
 crate=$(basename "$PWD")
 below=$(sed -n "s/^$crate staticlib://p" ../../crates.txt 2> /dev/null)
@@ -20,7 +20,7 @@ case "$1 ${2:-}" in
     for one in $below $crate; do
       echo "check $one" >> "$ASKED"
       echo "== $one"
-      [ "$one" = below ] || echo "fn $one::first: proved"
+      if [ "$one" = below ]; then echo "rt: below: begins with what a check kept"; else echo "fn $one::first: proved"; fi
       if grep -q wrong "../$one/src/lib.rt"; then
         printf '== summary\n%s: failed (1)\n' "$one"
         exit 1
