@@ -199,7 +199,9 @@ fn main() {
             "this package stands alone, so its archives cannot be proved here: {READY} must name a folder with ready ones"
         )),
         None => {
-            for read in ["archives", "crates.txt"].map(|name| root.join(name)).into_iter().chain(sources(root)) {
+            for read in
+                ["archives", "crates.txt"].map(|name| root.join(name)).into_iter().chain(sources(root))
+            {
                 println!("cargo::rerun-if-changed={}", read.display());
             }
             prove(root, &names, &out);

@@ -248,8 +248,7 @@ fn progress_is_told_at_once_and_archives_are_named() {
     assert!(said.errors().is_empty() && !said.cargo.contains("cargo::warning"));
     assert!(!said.cargo.contains("level_two"));
     let read = said.cargo.lines().filter_map(|line| line.strip_prefix("cargo::rerun-if-changed=../"));
-    let listed =
-        ["archives", "crates.txt", "crates/one/src", "crates/two/proofs", "crates/two/src"];
+    let listed = ["archives", "crates.txt", "crates/one/src", "crates/two/proofs", "crates/two/src"];
     assert_eq!(read.collect::<Vec<_>>(), listed, "what proving writes beside the crates is no change");
     let stage = stage.with("CHAIN_ARENA_ARCHIVES", " ");
     assert!(stage.run().errors()[0].ends_with("there is no such folder"));

@@ -392,7 +392,11 @@ fn every_export_only_calls_the_function_of_its_name_which_promises_the_same() {
             assert_eq!(parameters(&exports, call), parameters(&below, call), "{call}");
             assert_eq!(result(&exports, call), result(&below, call), "{call}");
             let names: Vec<String> = parameters(&exports, call).into_iter().map(|(name, _)| name).collect();
-            assert_eq!(body(&exports, call), format!("{}::{call}({})", owners[0], names.join(", ")), "{call}");
+            assert_eq!(
+                body(&exports, call),
+                format!("{}::{call}({})", owners[0], names.join(", ")),
+                "{call}"
+            );
         }
     }
 }

@@ -1,4 +1,4 @@
-// Level One, what is due of a chain, as a host calls it.
+// Level One, what is due of a chain, as a host calls it through level_one_c.
 #![tactic(auto)]
 
 ghost use Rattle.std.specs.Prelude.{List, [], ◌∷◌, ◌≡◌, ℕ};

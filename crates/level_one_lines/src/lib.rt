@@ -1,4 +1,4 @@
-// Level One, the lines and dots of the frame, as a host calls it.
+// Level One, the lines and dots of the frame, as a host calls it through level_one_c.
 #![tactic(auto)]
 
 ghost use Rattle.std.specs.Prelude.{[], ◌∷◌, ◌≡◌};

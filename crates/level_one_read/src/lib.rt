@@ -1,4 +1,4 @@
-// Level One, the check of an arena and reading links and neighbours, as a host calls it.
+// Level One, the check of an arena and reading links and neighbours, as a host calls it through level_one_c.
 #![tactic(auto)]
 
 ghost use Rattle.std.specs.Prelude.{[], ◌∷◌};

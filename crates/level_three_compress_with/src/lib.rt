@@ -1,4 +1,4 @@
-// Level Three, order-preserving compression, as a host calls it.
+// Level Three, order-preserving compression, as a host calls it through level_three_c.
 #![tactic(auto)]
 
 ghost use Rattle.definitions.specs.Arena.{arena};

@@ -1,4 +1,4 @@
-// Level Two, the drain of a chain, as a host calls it.
+// Level Two, the drain of a chain, as a host calls it through level_two_c.
 #![tactic(auto)]
 
 ghost use Rattle.std.specs.Prelude.{List, [], ◌∷◌, ◌≡◌, ℕ};

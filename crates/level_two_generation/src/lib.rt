@@ -1,4 +1,4 @@
-// Level Two, the current generation and the freelist, as a host calls them.
+// Level Two, the current generation and the freelist, as a host calls them through level_two_c.
 #![tactic(auto)]
 
 ghost use Rattle.definitions.specs.Arena.{arena};

@@ -1,4 +1,4 @@
-// Level Two, many edits in one call, as a host calls it.
+// Level Two, many edits in one call, as a host calls it through level_two_c.
 #![tactic(auto)]
 
 ghost use Rattle.definitions.specs.Arena.{arena};

@@ -1,4 +1,4 @@
-// All small arenas, in order, as a host calls for them: an archive of its own.
+// All small arenas, in order, as a host calls for them through small_arenas_c, an archive of its own.
 #![tactic(auto)]
 
 ghost use Rattle.std.specs.Prelude.{[], ◌∷◌, ◌≡◌};
