@@ -116,6 +116,15 @@ fn prove(root: &Path, names: &[&str], out: &Path) {
     }
 }
 
+/// The folders that the archives are made from. What proving writes beside them is left out.
+fn sources(root: &Path) -> Vec<PathBuf> {
+    let crates = fs::read_dir(root.join("crates")).into_iter().flatten().flatten();
+    let parts = crates.flat_map(|entry| ["src", "specs", "proofs"].map(|part| entry.path().join(part)));
+    let mut found: Vec<PathBuf> = parts.filter(|part| part.is_dir()).collect();
+    found.sort();
+    found
+}
+
 /// The folder of ready archives: a relative one is meant from where cargo was called.
 fn ready_folder(named: &Path) -> PathBuf {
     let called_from = fs::read_link(format!("/proc/{}/cwd", parent_id())).or_else(|_| env::current_dir());
@@ -190,8 +199,10 @@ fn main() {
             "this package stands alone, so its archives cannot be proved here: {READY} must name a folder with ready ones"
         )),
         None => {
-            for read in ["archives", "crates", "crates.txt"] {
-                println!("cargo::rerun-if-changed={}", root.join(read).display());
+            for read in
+                ["archives", "crates.txt"].map(|name| root.join(name)).into_iter().chain(sources(root))
+            {
+                println!("cargo::rerun-if-changed={}", read.display());
             }
             prove(root, &names, &out);
         }

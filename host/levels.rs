@@ -1,7 +1,6 @@
 // What is sold: the three levels, and beside them the small arenas, which are no level. build.rs and the tests read these lists.
 
-/// A thing that is sold: its archive, which is made from the crate of exports that has its name and from those whose names go on
-/// with `_`, and the names that it exports.
+/// A thing that is sold: its archive, which is made from the crate that has its name with `_c` behind it, and the names that it exports.
 pub struct Archive {
     /// The archive
     pub name: &'static str,

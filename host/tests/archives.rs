@@ -3,43 +3,54 @@
 use std::fs;
 use std::io::Read;
 use std::os::unix::fs::PermissionsExt;
-use std::path::{Path, PathBuf};
+use std::path::Path;
 use std::process::{Command, Output, Stdio};
 
-use crate::is_made_from;
 use crate::sold::ARCHIVES;
+use crate::{Outside, exports_of};
 
-/// A stand-in for `rt`: it proves everything, and compiles a crate to an archive that holds one file with the crate's text.
+/// A stand-in for `rt`: it proves the crates of a line of crates.txt, one of them with no word on its proof, as of a library, and compiles an archive that is the
+/// texts of these crates.
 const RT: &str = r#"#!/usr/bin/env bash
-case $1 in
-  version) echo stand-in ;;
-  check) shift; for crate; do echo "check $crate" >> "$ASKED"; echo "rt: $crate proved (0 s)"; done ;;
-  staticlib)
-    echo "staticlib $2" >> "$ASKED"
-    ! grep -q wrong "crates/$2/src/lib.rt" || exit 1
-    ! grep -q restless "crates/$2/src/lib.rt" || echo more >> "crates/$2/src/lib.rt"
-    mkdir -p target/staticlib && cp "crates/$2/src/lib.rt" "target/staticlib/$2.text"
-    rm -f "target/staticlib/lib$2.a" && (cd target/staticlib && ar rc "lib$2.a" "$2.text") ;;
+crate=$(basename "$PWD")
+below=$(sed -n "s/^$crate staticlib://p" ../../crates.txt 2> /dev/null)
+case "$1 ${2:-}" in
+  "version ") echo stand-in ;;
+  "all check")
+    for one in $below $crate; do
+      echo "check $one" >> "$ASKED"
+      echo "== $one"
+      if [ "$one" = below ]; then echo "rt: below: begins with what a check kept"; else echo "fn $one::first: proved"; fi
+      if grep -q wrong "../$one/src/lib.rt"; then
+        printf '== summary\n%s: failed (1)\n' "$one"
+        exit 1
+      fi
+      [ "$one" = below ] || echo "logic=proved functions=1"
+    done
+    echo "== summary" ;;
+  "lib ")
+    echo "lib $crate" >> "$ASKED"
+    ! grep -q uncompiled src/lib.rt || exit 1
+    ! grep -q restless src/lib.rt || echo more >> src/lib.rt
+    mkdir -p out && for one in $below $crate; do cat "../$one/src/lib.rt"; done > "out/lib$crate.a" ;;
+  *) exit 2 ;;
 esac
 "#;
 
 /// A small repository with the script, and the stand-in.
 struct Stage {
-    folder: PathBuf,
+    folder: Outside,
 }
 
 impl Stage {
-    /// Two levels of one and two crates of exports over a crate `below`, a third of one crate that stands alone, and the small arenas of the crate that has
-    /// their name. Other crates have names that begin alike.
+    /// The crates of exports of all archives over what they call, two levels over a crate `below`. Other crates have names that begin alike.
     fn new(name: &str) -> Self {
-        let folder = Path::new(env!("CARGO_TARGET_TMPDIR")).join(format!("archives_{name}"));
-        let _ = fs::remove_dir_all(&folder);
-        let stage = Self { folder };
+        let stage = Self { folder: Outside::new(&format!("archives_{name}")) };
         let script = fs::read_to_string(Path::new(env!("CARGO_MANIFEST_DIR")).join("../archives")).unwrap();
         stage.write("repository/archives", &script);
         stage.write("repository/crates.txt", &CRATES.map(|(one, on)| format!("{one}:{on}\n")).concat());
-        for (one, _) in CRATES {
-            stage.write(&format!("repository/crates/{one}/src/lib.rt"), &format!("{one}\n"));
+        for name in CRATES.map(|(one, _)| one.trim_end_matches(" staticlib")) {
+            stage.write(&format!("repository/crates/{name}/src/lib.rt"), &format!("{name}\n"));
         }
         stage.write("tools/rt", RT);
         fs::set_permissions(stage.folder.join("tools/rt"), fs::Permissions::from_mode(0o755)).unwrap();
@@ -57,11 +68,11 @@ impl Stage {
     fn run(&self, arguments: &[&str]) -> Output {
         let path = format!("{}:{}", self.folder.join("tools").display(), std::env::var("PATH").unwrap());
         let mut command = Command::new("bash");
-        command.arg("repository/archives").args(arguments).current_dir(&self.folder);
+        command.arg("repository/archives").args(arguments).current_dir(&*self.folder);
         command.env("PATH", path).env("ASKED", self.folder.join("asked")).output().unwrap()
     }
 
-    /// Runs the script, which must succeed, and answers which crates were compiled for it.
+    /// Runs the script, which must succeed, and answers which archives were compiled for it.
     fn compiled(&self, arguments: &[&str]) -> Vec<String> {
         let asked = self.folder.join("asked");
         let _ = fs::remove_file(&asked);
@@ -74,17 +85,17 @@ impl Stage {
             asked.is_empty(),
             "it tells what is proved, and nothing where nothing is: {said}"
         );
-        let mut compiled: Vec<String> =
-            asked.lines().filter_map(|line| line.strip_prefix("staticlib ")).map(str::to_string).collect();
-        compiled.sort();
-        compiled
+        asked
+            .lines()
+            .filter_map(|line| line.strip_prefix("lib ")?.strip_suffix("_c"))
+            .map(str::to_string)
+            .collect()
     }
 
     /// The texts of the crates that an archive was made from, in the order of the alphabet.
     fn texts(&self, archive: &str) -> Vec<String> {
-        let output = Command::new("ar").arg("p").arg(self.folder.join(archive)).output().unwrap();
-        let mut texts: Vec<String> =
-            String::from_utf8(output.stdout).unwrap().lines().map(str::to_string).collect();
+        let text = fs::read_to_string(self.folder.join(archive)).unwrap();
+        let mut texts: Vec<String> = text.lines().map(str::to_string).collect();
         texts.sort();
         texts
     }
@@ -96,57 +107,54 @@ impl Stage {
 }
 
 /// The crates of the stage, each with what it depends on.
-const CRATES: [(&str, &str); 9] = [
+const CRATES: [(&str, &str); 11] = [
     ("below", ""),
     ("small_table", ""),
     ("level_one_a", " below"),
     ("level_two_a", " below"),
     ("level_two_b", " below"),
-    ("level_three_a", ""),
     ("small_arenas", " small_table"),
-    ("small_arenas2", " small_table"),
+    ("level_one_c staticlib", " below level_one_a"),
+    ("level_two_c staticlib", " below level_two_a level_two_b"),
+    ("level_three_c staticlib", ""),
+    ("small_arenas_c staticlib", " small_table small_arenas"),
     ("small_printer", " small_arenas"),
 ];
 
-/// The crates of the stage that an archive is made from, in the order of the alphabet.
-const EVERY: [&str; 5] = ["level_one_a", "level_three_a", "level_two_a", "level_two_b", "small_arenas"];
+/// The archives, in the order in which they are made.
+const EVERY: [&str; 4] = ["level_one", "level_two", "level_three", "small_arenas"];
 
 #[test]
 fn what_is_up_to_date_is_not_made_again() {
     let stage = Stage::new("again");
     assert_eq!(stage.compiled(&["out"]), EVERY);
-    assert_eq!(stage.texts("out/liblevel_two.a"), ["level_two_a", "level_two_b"]);
+    assert_eq!(stage.texts("out/liblevel_two.a"), ["below", "level_two_a", "level_two_b", "level_two_c"]);
     assert!(stage.compiled(&["out"]).is_empty());
     assert!(stage.compiled(&["elsewhere", "level_two"]).is_empty(), "what was made serves other folders");
     assert!(stage.has("elsewhere/liblevel_two.a") && !stage.has("elsewhere/liblevel_one.a"));
+    for name in EVERY {
+        fs::remove_dir_all(stage.folder.join(format!("repository/crates/{name}_c/out"))).unwrap();
+    }
+    assert!(stage.compiled(&["third"]).is_empty(), "the gate takes the folders out/ away");
     fs::remove_dir_all(stage.folder.join("repository/target")).unwrap();
     assert!(stage.compiled(&["out"]).is_empty(), "an archive tells itself what it was made from");
-    assert_eq!(stage.compiled(&["new", "level_one"]), ["level_one_a"]);
+    assert_eq!(stage.compiled(&["new", "level_one"]), ["level_one"]);
 }
 
 #[test]
-fn an_archive_is_made_from_the_crate_of_its_name_and_from_those_that_go_on_with_an_underscore() {
+fn an_archive_is_made_from_the_crate_that_has_its_name_with_c_and_from_those_below() {
     let stage = Stage::new("named");
     assert_eq!(stage.compiled(&["out", "small_arenas"]), ["small_arenas"]);
-    assert_eq!(stage.texts("out/libsmall_arenas.a"), ["small_arenas"]);
+    assert_eq!(stage.texts("out/libsmall_arenas.a"), ["small_arenas", "small_arenas_c", "small_table"]);
     assert!(!stage.has("out/liblevel_one.a"));
-    for (more, archive) in [("small_arenas_more", "small_arenas"), ("level_three", "level_three")] {
-        let list = stage.folder.join("repository/crates.txt");
-        stage.write(
-            "repository/crates.txt",
-            &(fs::read_to_string(list).unwrap() + &format!("{more}: below\n")),
-        );
-        stage.write(&format!("repository/crates/{more}/src/lib.rt"), &format!("{more}\n"));
-        assert!(stage.compiled(&["out", archive]).contains(&more.to_string()));
-    }
-    assert_eq!(stage.texts("out/libsmall_arenas.a"), ["small_arenas", "small_arenas_more"]);
-    assert_eq!(stage.texts("out/liblevel_three.a"), ["level_three", "level_three_a"]);
+    let asked = fs::read_to_string(stage.folder.join("asked")).unwrap();
+    let lines = ["check small_table", "check small_arenas", "check small_arenas_c", "lib small_arenas_c"];
+    assert_eq!(asked.lines().collect::<Vec<_>>(), lines, "what is below is proved first, and no other crate");
     // the tests go by the same rule
-    for (one, _) in CRATES {
-        let made = ARCHIVES.iter().any(|archive| is_made_from(archive.name, one));
-        assert_eq!(made, EVERY.contains(&one), "{one}");
+    for archive in ARCHIVES {
+        let line = format!("{} staticlib", exports_of(archive.name));
+        assert!(CRATES.iter().any(|(one, _)| *one == line), "{line}");
     }
-    assert!(is_made_from("small_arenas", "small_arenas_more") && is_made_from("level_three", "level_three"));
 }
 
 #[test]
@@ -164,19 +172,22 @@ fn what_has_changed_is_made_again() {
     let stage = Stage::new("changed");
     stage.compiled(&["out"]);
     stage.write("repository/crates/level_two_b/src/lib.rt", "another\n");
-    assert_eq!(stage.compiled(&["out"]), ["level_two_b"]);
-    assert_eq!(stage.texts("out/liblevel_two.a"), ["another", "level_two_a"]);
+    assert_eq!(stage.compiled(&["out"]), ["level_two"]);
+    assert_eq!(stage.texts("out/liblevel_two.a"), ["another", "below", "level_two_a", "level_two_c"]);
     stage.write("repository/crates/small_table/src/lib.rt", "another\n");
     assert_eq!(stage.compiled(&["out"]), ["small_arenas"]);
     stage.write("repository/crates/below/src/lib.rt", "another\n");
-    assert_eq!(stage.compiled(&["out"]), ["level_one_a", "level_two_a", "level_two_b"]);
+    assert_eq!(stage.compiled(&["out"]), ["level_one", "level_two"]);
     for part in ["specs", "proofs"] {
         stage.write(&format!("repository/crates/below/{part}/Text.antt"), "another\n");
-        assert_eq!(stage.compiled(&["out"]), ["level_one_a", "level_two_a", "level_two_b"], "{part}");
+        assert_eq!(stage.compiled(&["out"]), ["level_one", "level_two"], "{part}");
     }
+    stage.write("repository/crates/level_three_c/src/lib.rt", "another\n");
+    assert_eq!(stage.compiled(&["out"]), ["level_three"]);
+    assert_eq!(stage.texts("out/liblevel_three.a"), ["another"]);
     stage.write("out/liblevel_three.a", "damaged");
     assert!(stage.compiled(&["out"]).is_empty());
-    assert_eq!(stage.texts("out/liblevel_three.a"), ["level_three_a"]);
+    assert_eq!(stage.texts("out/liblevel_three.a"), ["another"]);
 }
 
 #[test]
@@ -190,11 +201,11 @@ fn with_another_toolchain_all_is_made_again() {
 #[test]
 fn a_file_that_changes_while_it_is_compiled_is_noticed() {
     let stage = Stage::new("restless");
-    stage.write("repository/crates/level_three_a/src/lib.rt", "restless\n");
+    stage.write("repository/crates/level_three_c/src/lib.rt", "restless\n");
     let output = stage.run(&["out", "level_three"]);
     assert!(!output.status.success());
     let said = String::from_utf8_lossy(&output.stderr);
-    let noticed = "a file that level_three_a is made from changed while it was compiled: run it again";
+    let noticed = "a file that liblevel_three.a is made from changed while it was compiled: run it again";
     assert!(said.contains(noticed), "{said}");
     assert!(!stage.has("out/liblevel_three.a"));
 }
@@ -216,29 +227,40 @@ fn two_runs_wait_for_each_other() {
 #[test]
 fn how_far_it_is_is_told() {
     let stage = Stage::new("told");
-    let said = String::from_utf8(stage.run(&["out", "level_two"]).stderr).unwrap();
-    let lines: Vec<&str> = said.lines().collect();
+    let said = String::from_utf8(stage.run(&["out", "level_one", "level_two"]).stderr).unwrap();
     assert_eq!(
-        lines[..2],
+        said.lines().collect::<Vec<_>>(),
         [
-            "archives: proving 1 crates, then proving and compiling the 2 of the exports; this takes minutes",
-            "archives: below is proved, 1 of 1",
+            "archives: proving 6 crates, and compiling 2 archives of them; this takes minutes",
+            "archives: below is proved, 1 of 6",
+            "archives: level_one_a is proved, 2 of 6",
+            "archives: level_one_c is proved, 3 of 6",
+            "archives: liblevel_one.a is compiled, 1 of 2",
+            "archives: level_two_a is proved, 4 of 6",
+            "archives: level_two_b is proved, 5 of 6",
+            "archives: level_two_c is proved, 6 of 6",
+            "archives: liblevel_two.a is compiled, 2 of 2",
         ]
     );
-    assert_eq!(lines.len(), 4);
-    // Two crates may be done at once, and then be told in either order.
-    assert!(lines[2..].iter().any(|line| line.ends_with(" is proved and compiled, 2 of 2")), "{said}");
 }
 
 #[test]
 fn an_archive_that_is_not_proved_is_not_left() {
-    let stage = Stage::new("left");
-    stage.compiled(&["out"]);
-    stage.write("repository/crates/level_one_a/src/lib.rt", "wrong");
-    let output = stage.run(&["out"]);
-    assert!(!output.status.success());
-    assert!(String::from_utf8_lossy(&output.stderr).contains("archives: level_one_a is not proved"));
-    assert!(!stage.has("out/liblevel_one.a") && stage.has("out/liblevel_two.a"));
-    assert!(!stage.run(&["out", "level_four"]).status.success());
-    assert!(!stage.run(&[]).status.success());
+    for (text, message) in [
+        ("wrong", "archives: level_one_a is not proved"),
+        ("uncompiled", "archives: liblevel_one.a could not be compiled"),
+    ] {
+        let stage = Stage::new("left");
+        stage.compiled(&["out"]);
+        let of = if text == "wrong" { "level_one_a" } else { "level_one_c" };
+        stage.write(&format!("repository/crates/{of}/src/lib.rt"), text);
+        let output = stage.run(&["out"]);
+        assert!(!output.status.success());
+        let said = String::from_utf8_lossy(&output.stderr);
+        assert!(said.contains(message), "{said}");
+        assert!(!said.contains(&format!("{of} is proved")) || text == "uncompiled", "{said}");
+        assert!(!stage.has("out/liblevel_one.a") && stage.has("out/liblevel_two.a"));
+        assert!(!stage.run(&["out", "level_four"]).status.success());
+        assert!(!stage.run(&[]).status.success());
+    }
 }

@@ -6,6 +6,8 @@ use std::path::{Path, PathBuf};
 use std::process::Command;
 use std::sync::LazyLock;
 
+use crate::Outside;
+
 /// The build script as a program.
 static BUILD_SCRIPT: LazyLock<PathBuf> = LazyLock::new(|| {
     let program = Path::new(env!("CARGO_TARGET_TMPDIR")).join("build_script");
@@ -19,7 +21,7 @@ static BUILD_SCRIPT: LazyLock<PathBuf> = LazyLock::new(|| {
 
 /// A folder with `repository/host`, where the script runs, `caller`, where cargo is called, and `out`.
 struct Stage {
-    folder: PathBuf,
+    folder: Outside,
     variables: Vec<(&'static str, String)>,
 }
 
@@ -40,12 +42,10 @@ impl Said {
 impl Stage {
     /// A stage for x86-64 Linux and all features.
     fn new(name: &str) -> Self {
-        let folder = Path::new(env!("CARGO_TARGET_TMPDIR")).join(format!("build_{name}"));
-        let _ = fs::remove_dir_all(&folder);
+        let folder = Outside::new(&format!("build_{name}"));
         for part in ["repository/host", "caller", "out"] {
             fs::create_dir_all(folder.join(part)).unwrap();
         }
-        let folder = fs::canonicalize(folder).unwrap();
         let mut variables = vec![("OUT_DIR", folder.join("out").display().to_string())];
         variables.extend(
             [
@@ -234,6 +234,9 @@ fn progress_is_told_at_once_and_archives_are_named() {
         "repository/archives",
         "echo 'archives: first is proved, 1 of 2' >&2\necho noise >&2\necho \"archives: $2 $3 $4 in $1\" >&2\n",
     );
+    for file in ["one/src/lib.rt", "one/out/libone.a", "two/src/lib.rt", "two/proofs/Lib.antt"] {
+        stage.write(&format!("repository/crates/{file}"), "");
+    }
     let said = stage.run();
     let out = stage.folder.join("out").display().to_string();
     assert_eq!(
@@ -244,9 +247,9 @@ fn progress_is_told_at_once_and_archives_are_named() {
     );
     assert!(said.errors().is_empty() && !said.cargo.contains("cargo::warning"));
     assert!(!said.cargo.contains("level_two"));
-    for read in ["archives", "crates", "crates.txt"] {
-        assert!(said.cargo.contains(&format!("cargo::rerun-if-changed=../{read}\n")), "{read}");
-    }
+    let read = said.cargo.lines().filter_map(|line| line.strip_prefix("cargo::rerun-if-changed=../"));
+    let listed = ["archives", "crates.txt", "crates/one/src", "crates/two/proofs", "crates/two/src"];
+    assert_eq!(read.collect::<Vec<_>>(), listed, "what proving writes beside the crates is no change");
     let stage = stage.with("CHAIN_ARENA_ARCHIVES", " ");
     assert!(stage.run().errors()[0].ends_with("there is no such folder"));
     let stage = Stage {

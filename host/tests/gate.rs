@@ -2,24 +2,29 @@
 
 use std::fs;
 use std::os::unix::fs::{PermissionsExt, symlink};
-use std::path::{Path, PathBuf};
+use std::path::Path;
 use std::process::Command;
+
+use crate::Outside;
 
 /// What the toolchain's own gate says last.
 const VERDICT: &str = "3 passed, 0 failed";
 
-/// The tools that the gate asks for beside `rt` and `cargo`.
-const OTHERS: [&str; 3] = ["ar", "nm", "cc"];
+/// What it says before that, if all is well.
+const WELL: &str = "rt: ok; handles allowed: none; must-fail edits: 2 refused; every proof and must-fail edit was done in this run";
 
-/// A folder with the gate's script, a stand-in for `archives`, and one for each tool; `fails` names the step that fails.
+/// The tools that the gate asks for beside `rt` and `cargo`.
+const OTHERS: [&str; 2] = ["nm", "cc"];
+
+/// A folder with the gate's script, a stand-in for `archives`, and one for each tool; `fails` names the step that fails, and `ci` is what the toolchain's own
+/// gate says at the end.
 struct Stage {
-    folder: PathBuf,
+    folder: Outside,
 }
 
 impl Stage {
     fn new(name: &str, fails: &str, ci: &str) -> Stage {
-        let folder = Path::new(env!("CARGO_TARGET_TMPDIR")).join(format!("gate_{name}"));
-        let _ = fs::remove_dir_all(&folder);
+        let folder = Outside::new(&format!("gate_{name}"));
         fs::create_dir_all(folder.join("repository/.ci")).unwrap();
         fs::create_dir_all(folder.join("repository/build")).unwrap();
         fs::create_dir_all(folder.join("tools")).unwrap();
@@ -44,7 +49,7 @@ impl Stage {
         for tool in OTHERS {
             stage.script(&format!("tools/{tool}"), "#!/usr/bin/env bash\n");
         }
-        for tool in ["bash", "env", "dirname", "mktemp", "tee", "sed", "tail", "rm"] {
+        for tool in ["bash", "env", "dirname", "mktemp", "tee", "sed", "tail", "grep", "rm"] {
             let found = ["/bin", "/usr/bin"]
                 .iter()
                 .map(|folder| Path::new(folder).join(tool))
@@ -81,6 +86,11 @@ impl Stage {
     }
 }
 
+/// What the toolchain's gate says at the end, with this as its last line, as `printf` has it.
+fn well(verdict: &str) -> String {
+    format!("{WELL}\\n{verdict}")
+}
+
 /// The steps in their order, each with whether it links the archives that the gate made.
 fn all_steps() -> Vec<(String, bool)> {
     let alone = |feature: &str| {
@@ -90,8 +100,7 @@ fn all_steps() -> Vec<(String, bool)> {
         let tests = "test --test levels";
         [tests, "test --doc", "doc --no-deps"].map(|what| format!("cargo {what} {options}"))
     };
-    let proving =
-        ["rt fmt --check", "rt ci", "archives build/archives"].map(|words| (words.to_string(), false));
+    let proving = ["rt ci", "archives build/archives"].map(|words| (words.to_string(), false));
     let with_all = "cargo test --workspace --offline --quiet".to_string();
     let linking = [with_all]
         .into_iter()
@@ -107,14 +116,14 @@ fn all_steps() -> Vec<(String, bool)> {
 
 /// What the first steps, so many, write down.
 fn first(stage: &Stage, count: usize) -> Vec<String> {
-    let made = fs::canonicalize(&stage.folder).unwrap().join("repository/build/archives");
+    let made = stage.folder.join("repository/build/archives");
     let with = |linked: bool| if linked { format!(" with {}", made.display()) } else { String::new() };
     all_steps()[..count].iter().map(|(words, linked)| format!("{words}{}", with(*linked))).collect()
 }
 
 #[test]
 fn every_step_is_made_and_the_verdict_comes_last() {
-    let stage = Stage::new("whole", "nothing", VERDICT);
+    let stage = Stage::new("whole", "nothing", &well(VERDICT));
     let (passed, last, steps) = stage.run();
     assert!(passed);
     assert_eq!(last, VERDICT);
@@ -124,7 +133,7 @@ fn every_step_is_made_and_the_verdict_comes_last() {
 #[test]
 fn a_step_that_fails_ends_the_gate_with_another_line() {
     for (k, (words, _)) in all_steps().iter().enumerate() {
-        let stage = Stage::new(&format!("step_{k}"), &format!("\"{words}\""), VERDICT);
+        let stage = Stage::new(&format!("step_{k}"), &format!("\"{words}\""), &well(VERDICT));
         let (passed, last, steps) = stage.run();
         assert!(!passed, "{words}");
         assert!(last.starts_with(".ci/run: "), "{words}: {last}");
@@ -135,18 +144,40 @@ fn a_step_that_fails_ends_the_gate_with_another_line() {
 #[test]
 fn a_verdict_that_does_not_say_0_failed_is_not_passed_on() {
     for (k, verdict) in ["3 passed, 1 failed", "3 passed, 0 failed?", "3 passed", ""].iter().enumerate() {
-        let stage = Stage::new(&format!("verdict_{k}"), "nothing", verdict);
+        let stage = Stage::new(&format!("verdict_{k}"), "nothing", &well(verdict));
         let (passed, last, steps) = stage.run();
         assert!(!passed, "{verdict}");
         assert!(last.starts_with(".ci/run: "), "{verdict}: {last}");
-        assert_eq!(steps, first(&stage, 2), "{verdict}");
+        assert_eq!(steps, first(&stage, 1), "{verdict}");
+    }
+}
+
+#[test]
+fn a_bad_must_fail_edit_fails_the_gate() {
+    let edits = |said: &str| WELL.replace("2 refused", said);
+    for (k, (said, is_well)) in [
+        (edits("2 refused, 1 bad"), false),
+        (edits("2 refused, 1 of them only by a limit, 1 bad"), false),
+        (edits("0 refused, 12 bad"), false),
+        ("all proved".to_string(), false),
+        (edits("2 refused, 1 of them only by a limit"), true),
+        (edits("2 refused, 0 bad"), true),
+    ]
+    .into_iter()
+    .enumerate()
+    {
+        let stage = Stage::new(&format!("edits_{k}"), "nothing", &format!("{said}\\n{VERDICT}"));
+        let (passed, last, steps) = stage.run();
+        assert_eq!(passed, is_well, "{said}");
+        assert_eq!(last == VERDICT, is_well, "{said}: {last}");
+        assert_eq!(steps, first(&stage, if is_well { all_steps().len() } else { 1 }), "{said}");
     }
 }
 
 #[test]
 fn without_a_tool_nothing_passes() {
     for tool in ["rt", "cargo"].iter().chain(&OTHERS) {
-        let stage = Stage::new(&format!("without_{tool}"), "nothing", VERDICT);
+        let stage = Stage::new(&format!("without_{tool}"), "nothing", &well(VERDICT));
         fs::remove_file(stage.folder.join("tools").join(tool)).unwrap();
         let (passed, last, steps) = stage.run();
         assert!(!passed, "{tool}");

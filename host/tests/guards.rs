@@ -6,6 +6,8 @@ use std::collections::{BTreeMap, BTreeSet};
 use std::fs;
 use std::path::{Path, PathBuf};
 
+use crate::sold::ARCHIVES;
+
 /// The crates whose specs/ folders hold what is promised.
 const PROMISED: [&str; 3] = ["definitions", "statements", "answers"];
 
@@ -95,12 +97,12 @@ fn is_data(of: &str, names: &BTreeSet<String>) -> bool {
     of.split([' ', '(', ')']).filter(|word| !word.is_empty()).all(|word| names.contains(word))
 }
 
-/// `OfOne` as theorems begin, of-one, and as edits do, of_one.
-fn apart(name: &str, by: char) -> String {
+/// `OfOne` as theorems and edits begin, of_one. What is in small letters is so already.
+fn apart(name: &str) -> String {
     let mut out = String::new();
     for c in name.chars() {
-        if (c.is_uppercase() || c.is_numeric()) && !out.is_empty() {
-            out.push(by);
+        if (c.is_uppercase() || c.is_numeric()) && !out.is_empty() && !out.ends_with('_') {
+            out.push('_');
         }
         out.extend(c.to_lowercase());
     }
@@ -153,7 +155,7 @@ fn edits(owner: &str) -> Vec<(String, String, String)> {
     found
 }
 
-/// Whether a guard projects this field from one of its own arguments that is no arena, `w .field`, or gives it, `field =`.
+/// Whether a guard projects this field from one of its own arguments that is no arena, `w.field`, or gives it, `field =`.
 fn uses(guard: &(String, String), field: &str, given: bool) -> bool {
     let (name, text) = guard;
     if given {
@@ -168,11 +170,11 @@ fn uses(guard: &(String, String), field: &str, given: bool) -> bool {
         head.split_whitespace().skip(1).filter(|word| !["a", "b"].contains(word)).collect();
     // the argument of a parameter of the whole module, as the demand itself
     let arguments = arguments.into_iter().chain(["d"]);
-    let wanted = format!(" .{field}");
+    let wanted = format!(".{field}");
     let mut at: Vec<(usize, &str)> = text.match_indices(&wanted).collect();
     at.retain(|(at, _)| {
         let next = text[at + wanted.len()..].chars().next().unwrap_or(' ');
-        !(next.is_alphanumeric() || next == '-')
+        !(next.is_alphanumeric() || next == '_' || next == '\'')
     });
     let owners: Vec<&str> = at
         .iter()
@@ -187,18 +189,18 @@ fn every_field_of_a_statement_has_a_guard() {
     let data = data(&records);
     let mut fields = 0;
     for record in &records {
-        let prefix = format!("{}-", apart(&record.name, '-'));
+        let prefix = format!("{}_", apart(&record.name));
         let assumed = ASSUMED.contains(&record.name.as_str());
         let own: Vec<_> =
             guards(record.owner).into_iter().filter(|(name, _)| name.starts_with(&prefix)).collect();
         for (field, of, _) in record.fields.iter().filter(|(_, of, _)| !is_data(of, &data)) {
-            let whole = own.iter().filter(|(name, _)| name.ends_with("-whole"));
+            let whole = own.iter().filter(|(name, _)| name.ends_with("_whole"));
             assert!(
                 whole.clone().any(|guard| uses(guard, field, assumed)),
-                "no guard {prefix}..whole uses {}.{field} : {of}",
+                "no guard {prefix}.._whole uses {}.{field} : {of}",
                 record.name
             );
-            let small = own.iter().filter(|(name, _)| !name.ends_with("-whole"));
+            let small = own.iter().filter(|(name, _)| !name.ends_with("_whole"));
             assert!(
                 small.clone().any(|guard| uses(guard, field, assumed)),
                 "no small wrong case {prefix}.. uses {}.{field} : {of}",
@@ -258,22 +260,22 @@ fn every_definition_that_a_statement_is_made_of_has_its_meaning_in_full() {
     // what the calls compute: the code is held to these, the tables of cases are, and the page of promises ties each to the public call
     let computed = [
         "verdict",
-        "replyTo",
+        "reply_to",
         "accepted",
         "step",
-        "walkStart",
-        "walkStep",
+        "walk_start",
+        "walk_step",
         "drain",
         "insert",
         "applied",
-        "answersOf",
-        "compressGeneration",
-        "compressWith",
-        "laidOut",
-        "canonicalArena",
-        "compressCanonical",
+        "answers_of",
+        "compress_generation",
+        "compress_with",
+        "laid_out",
+        "canonical_arena",
+        "compress_canonical",
         "overflows",
-        "removedAll",
+        "removed_all",
     ];
     let below = definitions("definitions");
     let mut wanted: Vec<(&str, String)> = vec![];
@@ -282,7 +284,7 @@ fn every_definition_that_a_statement_is_made_of_has_its_meaning_in_full() {
         wanted.extend(definitions(owner).into_iter().map(|name| (owner, name)));
         texts.extend(files(&crates().join(owner).join("specs")).into_iter().map(|(_, text)| text));
     }
-    for line in texts.iter().flat_map(|text| text.split("\nuse Rattle·definitions.specs.").skip(1)) {
+    for line in texts.iter().flat_map(|text| text.split("\nuse Rattle.definitions.specs.").skip(1)) {
         let names = line.split_once('{').unwrap().1.split_once('}').unwrap().0;
         let names =
             names.split(',').map(str::trim).filter(|name| below.contains(*name) && !computed.contains(name));
@@ -290,10 +292,11 @@ fn every_definition_that_a_statement_is_made_of_has_its_meaning_in_full() {
     }
     assert!(wanted.len() > 30, "only {} definitions were found", wanted.len());
     for (owner, name) in wanted {
-        let named = apart(&name, '-');
+        // what is lent on is called so by a field, and by its guard
+        let named = if name == "lent_part" { "lent_on".to_string() } else { apart(&name) };
         assert!(
-            guards(owner).iter().any(|(guard, _)| *guard == format!("{named}-whole")),
-            "no guard {named}-whole says what {name} means"
+            guards(owner).iter().any(|(guard, _)| *guard == format!("{named}_whole")),
+            "no guard {named}_whole says what {name} means"
         );
     }
 }
@@ -301,6 +304,9 @@ fn every_definition_that_a_statement_is_made_of_has_its_meaning_in_full() {
 #[test]
 fn every_quoted_theorem_is_declared_and_stands_in_full() {
     let promises = fs::read_to_string(crates().join("../docs/PROMISES.md")).unwrap();
+    let (_, refused) = promises.split_once("## What refuses a weakened statement").unwrap();
+    let rows: BTreeSet<&str> =
+        refused.lines().filter_map(|line| line.strip_prefix("| `")?.split('`').next()).collect();
     let (_, table) = promises.split_once("## Theorems over the definitions").unwrap();
     let (table, _) = table.split_once("\n## ").unwrap();
     let page = fs::read_to_string(crates().join("every_call/proofs/InFull.antt")).unwrap();
@@ -318,19 +324,24 @@ fn every_quoted_theorem_is_declared_and_stands_in_full() {
             .collect();
         for name in cells[1].split('`').skip(1).step_by(2) {
             assert!(linked.contains(&format!("pub {name} :")), "{name} is not declared where PROMISES says");
-            let full = page.contains(&format!("pub {name}-in-full :"))
+            // a theorem that would have the name of a definition has `_lem` behind it
+            let full = page.contains(&format!("pub {}_in_full :", name.trim_end_matches("_lem")))
                 || page.contains(&format!("pub {name} :"))
-                || tables.contains(&format!("pub {name}-whole :"));
+                || tables.contains(&format!("pub {name}_whole :"));
             assert!(full, "{name} does not stand in full");
             quoted += 1;
         }
-        // a theorem among the guards stands in full too, or is a guard by its place
+        // among the guards a name is that of a row of the table of guards, or of a theorem that stands in full too, or of a guard by its place
         let placed: Vec<String> =
             PROMISED.iter().flat_map(|owner| guards(owner)).map(|(name, _)| name).collect();
-        for name in cells[3].split('`').skip(1).step_by(2).filter(|name| name.contains('-')) {
+        for name in cells[3].split('`').skip(1).step_by(2).filter(|name| !rows.contains(name)) {
+            // an edit of a call is a guard too
+            if ARCHIVES.iter().any(|archive| archive.exports.contains(&name)) {
+                continue;
+            }
             let full =
-                page.contains(&format!("pub {name}-in-full :")) || placed.iter().any(|guard| guard == name);
-            assert!(full, "{name}, a guard in PROMISES, does not stand in full");
+                page.contains(&format!("pub {name}_in_full :")) || placed.iter().any(|guard| guard == name);
+            assert!(full, "{name}, a guard in PROMISES, is no row and does not stand in full");
         }
     }
     assert!(quoted > 30, "only {quoted} theorems were found");
@@ -346,16 +357,16 @@ fn digest(text: &str) -> u64 {
 fn no_row_of_a_computed_table_is_exchanged_for_another() {
     // whoever changes a row, or what a row means, changes its file's number here
     for (file, rows, number) in [
-        ("Cases.antt", 40, 0xaf6f06f524ffb3ef),
-        ("Insertions.antt", 43, 0x32836b0d3ebd1cdf),
-        ("Refusals.antt", 58, 0xaea7dc4d82a02594),
-        ("Lines.antt", 19, 0xb03fb643eab3fd34),
+        ("Cases.antt", 40, 0x685b10a945e66472),
+        ("Insertions.antt", 43, 0xb0e3a54342f5846c),
+        ("Refusals.antt", 58, 0xbd7e655f0550887c),
+        ("Lines.antt", 19, 0xc39ad18c5bf8bbe3),
     ] {
         let text = fs::read_to_string(crates().join("definitions/specs").join(file)).unwrap();
         let said =
             text.lines().map(str::trim).filter(|line| !line.starts_with("--") && !line.starts_with("use "));
         let said: Vec<&str> = said.collect();
-        let begins = ["row ", "prevOf ", "nextOf ", "record { number"];
+        let begins = ["row ", "prev_of ", "next_of ", "record { number"];
         let row = |line: &&&str| begins.iter().any(|begin| line.starts_with(begin));
         let listed: Vec<&&str> = said.iter().filter(row).filter(|line| line.ends_with('∷')).collect();
         assert_eq!(listed.len(), rows, "{file}");
@@ -387,7 +398,7 @@ fn promises_names_every_guard_and_no_other() {
     }
     let there: BTreeSet<String> =
         PROMISED.iter().flat_map(|owner| guards(owner)).map(|(name, _)| name).collect();
-    for name in there.iter().filter(|name| !name.ends_with("-is-open")) {
+    for name in there.iter().filter(|name| !name.ends_with("_is_open")) {
         assert!(named.contains_key(name), "PROMISES does not name the guard {name}");
     }
     for name in named.keys() {

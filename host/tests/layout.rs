@@ -2,6 +2,9 @@
 //! and type, in the same order. Every word is 32 bits wide. The proofs do not hold these places, so faults are planted for each export: any two parameters,
 //! and any two fields, of one type exchanged in the Rattle source are found, and so is a narrower word in any of the three.
 //!
+//! An archive's exports stand in a crate of their own, NAME_c, which only calls. The function that an export calls has its name, its parameters and its
+//! promise, word for word, and is in one of the crates below.
+//!
 //! What each export promises follows from its signature, so that is held too: `Answered` of its own call with its own arguments, of the arena at entry and
 //! at exit, of every field and of what is lent; without an arena, that its number and every field are what is defined of its own arguments; where it writes an
 //! arena, that these and the arena at exit are what is defined of the arena at entry and of its own arguments; and nothing is asked of the caller. A weaker
@@ -11,7 +14,7 @@ use std::collections::BTreeSet;
 use std::fs;
 use std::path::{Path, PathBuf};
 
-use crate::is_made_from;
+use crate::exports_of;
 use crate::sold::{ARCHIVES, Archive, WITHOUT_ARENA, WRITES_ARENA, is_on_arena};
 
 /// A parameter or a field: its name, and its type as Rust has it.
@@ -32,19 +35,24 @@ fn read(name: &str) -> String {
     fs::read_to_string(root().join(name)).unwrap_or_else(|error| panic!("{name}: {error}"))
 }
 
-/// The Rattle source of the crates of this name and of those whose names go on with `_`, without comments. Each is one file, so that nothing is declared
-/// where nobody looks.
-fn sources(of: &str) -> String {
+/// The Rattle source of a crate, without comments. It is one file, so that nothing is declared where nobody looks.
+fn source(name: &str) -> String {
+    let files = std::fs::read_dir(root().join(format!("crates/{name}/src"))).unwrap().count();
+    let source = read(&format!("crates/{name}/src/lib.rt"));
+    assert!(files == 1 && plain(&source), "{name} has more than one file of plain source");
+    uncommented(&source)
+}
+
+/// The crates that an archive's exports call: those that its crate of exports depends on and that have its name, or begin with it and `_`.
+fn called(archive: &Archive) -> Vec<String> {
     let list = read("crates.txt");
-    let crates = list.lines().filter_map(|line| line.split_once(':')).map(|(name, _)| name);
-    let mut text = String::new();
-    for name in crates.filter(|name| is_made_from(of, name)) {
-        let files = std::fs::read_dir(root().join(format!("crates/{name}/src"))).unwrap().count();
-        let source = read(&format!("crates/{name}/src/lib.rt"));
-        assert!(files == 1 && plain(&source), "{name} has more than one file of plain source");
-        text += &uncommented(&source);
-    }
-    text
+    let begins = format!("{} staticlib:", exports_of(archive.name));
+    let mut lines = list.lines().filter_map(|line| line.strip_prefix(&begins));
+    let line = lines.next().unwrap_or_else(|| panic!("crates.txt has no line {begins}"));
+    let own = |name: &&str| {
+        name.strip_prefix(archive.name).is_some_and(|rest| rest.is_empty() || rest.starts_with('_'))
+    };
+    line.split_whitespace().filter(own).map(str::to_string).collect()
 }
 
 /// Whether a source has no other module and no comment but those that begin a line with `//`.
@@ -73,12 +81,27 @@ fn uncommented(source: &str) -> String {
 
 /// The Rattle source of what an archive exports.
 fn exporting(archive: &Archive) -> String {
-    sources(archive.name)
+    source(&exports_of(archive.name))
 }
 
-/// The Rattle source of what is exported, and of the results that exports share.
+/// The Rattle source of what an archive's exports call.
+fn below(archive: &Archive) -> String {
+    called(archive).iter().map(|name| source(name)).collect()
+}
+
+/// The Rattle source of all exports.
+fn all_exports() -> String {
+    ARCHIVES.iter().map(exporting).collect()
+}
+
+/// The Rattle source of all that exports call, where their results are declared, and of the results that they share.
+fn all_below() -> String {
+    ARCHIVES.iter().map(below).collect::<String>() + &source("answers")
+}
+
+/// The Rattle source of what is exported, in front of that of what it calls.
 fn rattle() -> String {
-    ARCHIVES.iter().map(exporting).collect::<String>() + &sources("answers")
+    all_exports() + &all_below()
 }
 
 /// The text between two marks, the first of which stands behind a start.
@@ -206,11 +229,6 @@ fn pairs<'a>(text: &'a str, start: &str, end: &str) -> Vec<(&'a str, &'a str)> {
     pairs.map(|(i, j)| (all[i], all[j])).filter(|(a, b)| named(a).1 == named(b).1).collect()
 }
 
-/// A name as a contract writes it.
-fn marked(name: &str) -> String {
-    if name.contains('_') { format!("«{name}»") } else { name.to_string() }
-}
-
 /// A list as a contract writes it.
 fn listed(items: Vec<String>) -> String {
     let all: Vec<String> = items.into_iter().chain(["[]".to_string()]).collect();
@@ -228,7 +246,7 @@ fn words(text: &str, of: &str) -> Vec<String> {
         .into_iter()
         .map(named)
         .filter(|(_, of)| of == "u32")
-        .map(|(name, _)| format!("r .{}", marked(&name)))
+        .map(|(name, _)| format!("result.{name}"))
         .collect()
 }
 
@@ -245,28 +263,40 @@ fn promised(text: &str, call: &str) -> String {
 
 /// The arguments of a definition that takes words alone.
 fn arguments(call: &str, parameters: &[Place]) -> String {
-    let marked = |(name, of): &Place| {
+    let word = |(name, of): &Place| {
         assert_eq!(of, "u32", "{call}: {name}");
-        marked(name)
+        name.clone()
     };
-    parameters.iter().map(marked).collect::<Vec<_>>().join(" ")
+    parameters.iter().map(word).collect::<Vec<_>>().join(" ")
 }
 
 /// The words of a result that begins with the number alone, those behind it.
 fn further(text: &str, call: &str) -> String {
     let mut words = words(text, result(text, call));
-    assert_eq!(words.remove(0), "r .number", "{call}");
+    assert_eq!(words.remove(0), "result.number", "{call}");
     listed(words)
 }
 
 /// The contract of an export that takes words and no arena: its number and its further fields are what is defined of these words.
 fn promised_without_arena(text: &str, call: &str) -> String {
     let (defined, arguments) = (definition_of(call), arguments(call, &parameters(text, call)));
-    format!("ensures {{ λ r. ⌜ told (r .number) {} ≡ {defined} {arguments} ⌝ }}", further(text, call))
+    format!("ensures {{ told result.number {} ≡ {defined} {arguments} }}", further(text, call))
 }
 
 /// The names of the five slices that an arena is lent as, with which the parameters begin.
 const COLUMNS: [&str; 5] = ["prev", "next", "generation", "payload", "header"];
+
+/// The lent arena at entry and at exit, as a contract writes it. Where no column can be written, both are of what it is now.
+fn lent_arena(columns: &[Place]) -> [String; 2] {
+    let is_written = |of: &str| of.starts_with("&mut [");
+    if !columns.iter().any(|(_, of)| is_written(of)) {
+        return ["at_entry", "at_exit"].map(|at| format!("({at} {})", COLUMNS.join(" ")));
+    }
+    ["old", "new"].map(|at| {
+        let word = |(name, of): &Place| format!("{name}.{}", if is_written(of) { at } else { "now" });
+        format!("(arena {})", columns.iter().map(word).collect::<Vec<_>>().join(" "))
+    })
+}
 
 /// The contract of an export that writes an arena: its number, its further fields and the arena at exit are what is defined of the arena at entry and of its
 /// words, and nothing else is handed back.
@@ -275,10 +305,10 @@ fn promised_of_written(text: &str, call: &str) -> String {
     let written: Vec<&str> = parameters[..5].iter().map(|(name, _)| name.as_str()).collect();
     assert_eq!(written, COLUMNS, "{call}");
     assert!(parameters[..5].iter().all(|(_, of)| of.starts_with("&mut [")), "{call} writes all of them");
-    let (columns, defined) = (COLUMNS.join(" "), definition_of(call));
+    let ([entry, exit], defined) = (lent_arena(&parameters[..5]), definition_of(call));
     let (fields, arguments) = (further(text, call), arguments(call, &parameters[5..]));
     format!(
-        "ensures {{ λ r. ⌜ reply (r .number) {fields} (atExit {columns}) [] ≡ {defined} capacityLimit (atEntry {columns}) {arguments} ⌝ }}"
+        "ensures {{ reply result.number {fields} {exit} [] ≡ {defined} capacity_limit {entry} {arguments} }}"
     )
 }
 
@@ -286,39 +316,37 @@ fn promised_of_written(text: &str, call: &str) -> String {
 fn promised_of_arena(text: &str, call: &str) -> String {
     let parameters = parameters(text, call);
     let names: Vec<&str> = parameters.iter().map(|(name, _)| name.as_str()).collect();
-    let (columns, own) = (&names[..5], &parameters[5..]);
-    assert_eq!(columns, COLUMNS, "{call}");
+    let own = &parameters[5..];
+    assert_eq!(names[..5], COLUMNS, "{call}");
     let of = result(text, call);
     let mut fields = if of == "Answer" { vec![] } else { words(text, of) };
     let (mut arguments, mut lent, mut back) = (vec![], "[]".to_string(), "[]".to_string());
     if call == "chain_arena_walk_step" {
-        lent = listed(own.iter().map(|(name, _)| marked(name)).collect());
+        lent = listed(own.iter().map(|(name, _)| name.clone()).collect());
         back = listed(fields.split_off(fields.len() - own.len()));
     } else {
         for (name, of) in own {
-            let word = marked(name);
             match of.as_str() {
-                "u32" if name.ends_with("_slot") => arguments
-                    .push(format!("(pointer {word} {})", marked(&name.replace("_slot", "_generation")))),
+                "u32" if name.ends_with("_slot") => {
+                    arguments.push(format!("(pointer {name} {})", name.replace("_slot", "_generation")))
+                }
                 "u32"
                     if name.ends_with("_generation")
                         && names.contains(&name.replace("_generation", "_slot").as_str()) => {}
                 "u32" if name == "reset" => arguments.push("(not (eqb reset 0))".to_string()),
-                "u32" => arguments.push(word),
+                "u32" => arguments.push(name.clone()),
                 slice if slice.starts_with("&mut [") => {
-                    (lent, back) = (format!("(now ({word} .entry))"), format!("(now ({word} .exit))"));
+                    (lent, back) = (format!("{name}.old"), format!("{name}.new"));
                 }
-                _ => arguments.push(format!("(now ({word} .entry))")),
+                _ => arguments.push(format!("{name}.now")),
             }
         }
     }
     let made = call_of(call);
     let made = if arguments.is_empty() { made } else { format!("({made} {})", arguments.join(" ")) };
-    let (columns, answer) = (columns.join(" "), if of == "Answer" { "r" } else { "(r .answer)" });
-    let fields = listed(fields);
-    format!(
-        "ensures {{ λ r. ⌜ Answered {made} (atEntry {columns}) {lent} {answer} {fields} (atExit {columns}) {back} ⌝ }}"
-    )
+    let answer = if of == "Answer" { "result" } else { "result.answer" };
+    let ([entry, exit], fields) = (lent_arena(&parameters[..5]), listed(fields));
+    format!("ensures {{ Answered {made} {entry} {lent} {answer} {fields} {exit} {back} }}")
 }
 
 /// All that stands between an export's signature and its body, on one line.
@@ -337,9 +365,38 @@ fn every_export_promises_what_its_signature_asks_for_and_asks_nothing() {
         assert_eq!(stated(&rattle, call), promised(&rattle, call), "{call}");
     }
     // the words of a contract mean what these modules say: they come from there, and none is renamed
+    for line in rattle.lines().filter(|line| line.starts_with("ghost use ")) {
+        assert!(from_home(line), "{line}");
+    }
+}
+
+/// What an export does: the one statement of its body, on one line.
+fn body(text: &str, call: &str) -> String {
+    let (_, behind) = text.split_once(&format!("fn {call}(")).unwrap();
+    let body = between(behind, "\n{\n", "\n}\n");
+    body.split_whitespace().collect::<Vec<_>>().join(" ").replace("( ", "(").replace(", )", ")")
+}
+
+#[test]
+fn every_export_only_calls_the_function_of_its_name_which_promises_the_same() {
     for archive in ARCHIVES {
-        for line in exporting(archive).lines().filter(|line| line.starts_with("ghost use ")) {
-            assert!(from_home(line), "{line}");
+        let exports = exporting(archive);
+        for call in archive.exports {
+            let owners: Vec<String> = called(archive)
+                .into_iter()
+                .filter(|name| source(name).contains(&format!("\npub fn {call}(")))
+                .collect();
+            assert_eq!(owners.len(), 1, "{call} is in {owners:?}");
+            let below = source(&owners[0]);
+            assert_eq!(stated(&exports, call), stated(&below, call), "{call}");
+            assert_eq!(parameters(&exports, call), parameters(&below, call), "{call}");
+            assert_eq!(result(&exports, call), result(&below, call), "{call}");
+            let names: Vec<String> = parameters(&exports, call).into_iter().map(|(name, _)| name).collect();
+            assert_eq!(
+                body(&exports, call),
+                format!("{}::{call}({})", owners[0], names.join(", ")),
+                "{call}"
+            );
         }
     }
 }
@@ -351,56 +408,59 @@ fn call_of(export: &str) -> String {
 }
 
 /// What is defined of a call that is not on an arena, as the definitions name it.
-fn definition_of(export: &str) -> String {
-    let name = call_of(export);
-    name[..1].to_lowercase() + &name[1..]
+fn definition_of(export: &str) -> &str {
+    export.strip_prefix("chain_arena_").unwrap_or(export)
 }
 
 /// Whether a line brings in each word of a contract from the module that gives it its meaning.
 fn from_home(line: &str) -> bool {
     let (module, _) = line.trim_start_matches("ghost use ").split_once(".{").expect("a module and names");
     let home = |name: &str| match name {
-        "Answered" => Some("Rattle·answers.specs.Answered"),
-        "told" => Some("Rattle·definitions.specs.Clock"),
+        "Answered" => Some("Rattle.answers.specs.Answered"),
+        "told" => Some("Rattle.definitions.specs.Clock"),
         name if WITHOUT_ARENA.iter().any(|call| definition_of(call) == name) => {
-            Some("Rattle·definitions.specs.Clock")
+            Some("Rattle.definitions.specs.Clock")
         }
-        "reply" => Some("Rattle·definitions.specs.Reply"),
-        "capacityLimit" => Some("Rattle·definitions.specs.Arena"),
+        "reply" => Some("Rattle.definitions.specs.Reply"),
+        "arena" | "capacity_limit" => Some("Rattle.definitions.specs.Arena"),
         name if WRITES_ARENA.iter().any(|call| definition_of(call) == name) => {
-            Some("Rattle·all_small.specs.SmallArena")
+            Some("Rattle.all_small.specs.SmallArena")
         }
-        "_≡_" => Some("mathlib.Core.Path"),
-        "atEntry" | "atExit" => Some("Rattle·definitions.specs.Lent"),
-        "pointer" => Some("Rattle·definitions.specs.Read"),
-        "not" => Some("mathlib.Core.Bool"),
-        "eqb" => Some("lib.Dec"),
-        "[]" | "_∷_" => Some("mathlib.Core.List"),
-        "now" => Some("the language itself"),
-        name => calls().any(|call| call_of(call) == name).then_some("Rattle·definitions.specs.Calls"),
+        "at_entry" | "at_exit" => Some("Rattle.definitions.specs.Lent"),
+        "pointer" => Some("Rattle.definitions.specs.Read"),
+        "◌≡◌" | "[]" | "◌∷◌" | "not" | "eqb" => Some("Rattle.std.specs.Prelude"),
+        "result" | "now" | "old" | "new" => Some("the language itself"),
+        name => calls().any(|call| call_of(call) == name).then_some("Rattle.definitions.specs.Calls"),
     };
     !line.contains(" as ")
         && between(line, "{", "}").split(", ").all(|name| home(name).is_none_or(|home| home == module))
 }
 
-/// Whether every export, and every struct of its result, is declared once in these sources, and the export as one.
-fn declared_once(text: &str) -> bool {
-    calls().all(|call| {
-        let exported = text.matches(&format!("#[no_mangle]\npub extern \"C\" fn {call}(")).count();
-        let of = result(text, call);
-        exported == 1
-            && text.matches(&format!("fn {call}(")).count() == 1
-            && text.matches(&format!("struct {of} {{")).count() == 1
-    })
+/// What a line has that exports a function.
+const EXPORTED: &str = "#[unsafe(no_mangle)]\npub extern \"C\" fn ";
+
+/// Whether every export, and every struct of its result, is declared once in these sources, the export as one, and what it calls is none.
+fn declared_once(exports: &str, below: &str) -> bool {
+    let both = format!("{exports}{below}");
+    !["no_mangle", "extern", "export_name"].iter().any(|word| below.contains(word))
+        && calls().all(|call| {
+            exports.matches(&format!("{EXPORTED}{call}(")).count() == 1
+                && exports.matches(&format!("fn {call}(")).count() == 1
+                && below.matches(&format!("fn {call}(")).count() == 1
+                && both.matches(&format!("struct {} {{", result(exports, call))).count() == 1
+        })
 }
 
 #[test]
 fn what_is_looked_at_is_what_is_exported() {
-    let rattle = rattle();
-    assert!(declared_once(&rattle));
+    let (exports, below) = (all_exports(), all_below());
+    assert!(declared_once(&exports, &below));
     for call in calls() {
-        let decoy = format!("fn {call}(prev: &[u32]) -> Answer\n    ensures {{ λ r. ⌜ r ≡ r ⌝ }}\n{{\n}}\n");
-        assert!(!declared_once(&format!("{decoy}{rattle}")), "{call}");
+        let decoy = format!("fn {call}(prev: &[u32]) -> Answer\n    ensures {{ result ≡ result }}\n{{\n}}\n");
+        assert!(!declared_once(&format!("{decoy}{exports}"), &below), "{call}");
+        assert!(!declared_once(&exports, &format!("{decoy}{below}")), "{call}");
+        let called = format!("pub fn {call}(");
+        assert!(!declared_once(&exports, &below.replace(&called, &format!("{EXPORTED}{call}("))), "{call}");
     }
 }
 
@@ -421,22 +481,25 @@ fn a_declaration_where_nobody_looks_is_found() {
 #[test]
 fn a_word_of_a_contract_from_elsewhere_is_found() {
     for line in [
-        "ghost use Rattle·answers.specs.Mine.{Connect, BreakPrev};",
-        "ghost use Rattle·answers.specs.Mine.{atExit};",
-        "ghost use Rattle·answers.specs.Mine.{now};",
-        "ghost use Rattle·answers.specs.Mine.{_∷_};",
-        "ghost use Rattle·answers.specs.Mine.{_≡_};",
-        "ghost use Rattle·answers.specs.Mine.{told};",
-        "ghost use Rattle·answers.specs.Mine.{lineOfDot};",
-        "ghost use Rattle·definitions.specs.Calls.{DueCount, lineDots};",
-        "ghost use Rattle·definitions.specs.Clock.{told, DueEvents};",
-        "ghost use Rattle·definitions.specs.Clock.{lineDots as lineOfDot};",
-        "ghost use Rattle·all_small.specs.Mine.{reply};",
-        "ghost use Rattle·all_small.specs.Mine.{Arena, capacityLimit};",
-        "ghost use Rattle·all_small.specs.Mine.{smallArena};",
-        "ghost use Rattle·all_small.specs.SmallArena.{smallArena, atEntry};",
-        "ghost use Rattle·definitions.specs.Clock.{smallArena};",
-        "ghost use Rattle·definitions.specs.Calls.{Connect as BreakPrev, BreakPrev as Connect};",
+        "ghost use Rattle.answers.specs.Mine.{Connect, BreakPrev};",
+        "ghost use Rattle.answers.specs.Mine.{at_exit};",
+        "ghost use Rattle.answers.specs.Mine.{arena};",
+        "ghost use Rattle.answers.specs.Mine.{now};",
+        "ghost use Rattle.answers.specs.Mine.{old, new};",
+        "ghost use Rattle.answers.specs.Mine.{result};",
+        "ghost use Rattle.answers.specs.Mine.{◌∷◌};",
+        "ghost use Rattle.answers.specs.Mine.{◌≡◌};",
+        "ghost use Rattle.answers.specs.Mine.{told};",
+        "ghost use Rattle.answers.specs.Mine.{line_of_dot};",
+        "ghost use Rattle.definitions.specs.Calls.{DueCount, line_dots};",
+        "ghost use Rattle.definitions.specs.Clock.{told, DueEvents};",
+        "ghost use Rattle.definitions.specs.Clock.{line_dots as line_of_dot};",
+        "ghost use Rattle.all_small.specs.Mine.{reply};",
+        "ghost use Rattle.all_small.specs.Mine.{Arena, capacity_limit};",
+        "ghost use Rattle.all_small.specs.Mine.{small_arena};",
+        "ghost use Rattle.all_small.specs.SmallArena.{small_arena, at_entry};",
+        "ghost use Rattle.definitions.specs.Clock.{small_arena};",
+        "ghost use Rattle.definitions.specs.Calls.{Connect as BreakPrev, BreakPrev as Connect};",
     ] {
         assert!(!from_home(line), "{line}");
     }
@@ -452,39 +515,53 @@ fn a_weaker_promise_is_found_in_every_export() {
             assert_ne!(changed, behind, "{call}: {from}");
             format!("{before}fn {call}({changed}")
         };
-        let mut weaker = vec![wrong("    ensures {", "    requires { ⌜ 0 ≡ 0 ⌝ }\n    ensures {")];
+        let mut weaker = vec![wrong("    ensures {", "    requires { 0 ≡ 0 }\n    ensures {")];
         if WITHOUT_ARENA.contains(&call) {
             let (defined, first) = (definition_of(call), &parameters(&rattle, call)[0].0);
             let other = WITHOUT_ARENA.iter().map(|call| definition_of(call)).find(|other| *other != defined);
             weaker.extend([
-                wrong("⌜ told ", "⌜ ⊥ → told "),
-                wrong("told (r .number) ", "told 0 "),
-                wrong("(r .number) (", "(r .number) (0 ∷ "),
-                wrong(" ∷ [])", " ∷ r .number ∷ [])"),
-                wrong(&format!("≡ {defined} {first} ⌝"), &format!("≡ {defined} 0 ⌝")),
+                wrong("{ told ", "{ ⊥ → told "),
+                wrong("told result.number ", "told 0 "),
+                wrong("result.number (", "result.number (0 ∷ "),
+                wrong(" ∷ [])", " ∷ result.number ∷ [])"),
+                wrong(&format!("≡ {defined} {first} }}"), &format!("≡ {defined} 0 }}")),
                 wrong(&format!("≡ {defined} "), &format!("≡ {} ", other.unwrap())),
             ]);
         } else if WRITES_ARENA.contains(&call) {
             let (defined, own) = (definition_of(call), &parameters(&rattle, call)[5].0);
             let fields = further(&rattle, call);
-            let exchanged = fields.replace("r .found ∷ r .length", "r .length ∷ r .found");
+            let exchanged = fields.replace("result.found ∷ result.length", "result.length ∷ result.found");
             weaker.extend([
-                wrong("⌜ reply ", "⌜ ⊥ → reply "),
-                wrong("(atExit ", "(atEntry "),
-                wrong("(atEntry ", "(atExit "),
-                wrong("(atExit prev next ", "(atExit next prev "),
-                wrong("(atEntry prev next generation payload ", "(atEntry prev next payload generation "),
-                wrong("reply (r .number) ", "reply 0 "),
+                wrong("{ reply ", "{ ⊥ → reply "),
+                wrong("prev.new ", "prev.old "),
+                wrong("prev.old ", "prev.new "),
+                wrong("(arena prev.new next.new ", "(arena next.new prev.new "),
+                wrong("generation.old payload.old ", "payload.old generation.old "),
+                wrong("reply result.number ", "reply 0 "),
                 wrong(&fields, &exchanged),
-                wrong(&fields, &fields.replace("r .length ∷ ", "")),
-                wrong(&fields, &fields.replace("r .found", "1")),
-                wrong(" header) []", " header) (now (prev .exit))"),
-                wrong(&format!("≡ {defined} "), "≡ lineOfDot "),
-                wrong(" capacityLimit (", " 3 ("),
-                wrong(&format!(" {own} ⌝"), " 0 ⌝"),
+                wrong(&fields, &fields.replace("result.length ∷ ", "")),
+                wrong(&fields, &fields.replace("result.found", "1")),
+                wrong(" header.new) []", " header.new) prev.new"),
+                wrong(&format!("≡ {defined} "), "≡ line_of_dot "),
+                wrong(" capacity_limit (", " 3 ("),
+                wrong(&format!(" {own} }}"), " 0 }"),
             ]);
         } else {
-            weaker.extend([wrong("⌜ Answered ", "⌜ ⊥ → Answered "), wrong("(atExit ", "(atEntry ")]);
+            weaker.push(wrong("{ Answered ", "{ ⊥ → Answered "));
+            let contract = &behind[..behind.find("\n{").unwrap()];
+            if contract.contains("(at_exit ") {
+                weaker.extend([wrong("(at_exit ", "(at_entry "), wrong("(at_entry ", "(at_exit ")]);
+            } else {
+                let written: Vec<&str> = COLUMNS
+                    .into_iter()
+                    .filter(|column| contract.contains(&format!("{column}.new")))
+                    .collect();
+                assert!(!written.is_empty(), "{call} writes a column");
+                for column in written {
+                    weaker.push(wrong(&format!("{column}.new"), &format!("{column}.old")));
+                    weaker.push(wrong(&format!("{column}.old"), &format!("{column}.new")));
+                }
+            }
         }
         for text in weaker {
             assert_ne!(stated(&text, call), promised(&text, call), "{call}");
@@ -496,7 +573,7 @@ fn a_weaker_promise_is_found_in_every_export() {
 fn each_archive_lists_what_its_crates_export() {
     for archive in ARCHIVES {
         let source = exporting(archive);
-        let exports = source.split("#[no_mangle]\npub extern \"C\" fn ").skip(1);
+        let exports = source.split(EXPORTED).skip(1);
         let names: BTreeSet<&str> = exports.filter_map(|text| text.split('(').next()).collect();
         assert_eq!(archive.exports.iter().copied().collect::<BTreeSet<_>>(), names, "{}", archive.name);
         assert_eq!(archive.exports.len(), names.len(), "{} lists a name twice", archive.name);

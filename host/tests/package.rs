@@ -1,6 +1,8 @@
 //! What `cargo package` carries: the library with its README, NOTICE, C header and manual, and nothing that only the repository needs.
 
-use std::path::Path;
+use std::collections::BTreeMap;
+use std::fs;
+use std::path::{Path, PathBuf};
 use std::process::Command;
 
 #[test]
@@ -23,16 +25,29 @@ fn the_package_carries_readme_notice_header_and_manual() {
         assert!(files.contains(&wanted), "{wanted} is not in the package: {files:?}");
     }
     assert!(!files.iter().any(|file| file.starts_with("tests/")), "{files:?}");
+}
+
+/// The files of a folder and of those below it, or the one that a path names, by their places in a folder above.
+fn files(above: &Path, path: &Path) -> BTreeMap<PathBuf, Vec<u8>> {
+    if path.is_dir() {
+        let entries = fs::read_dir(path).unwrap().map(|entry| entry.unwrap().path());
+        return entries.flat_map(|entry| files(above, &entry)).collect();
+    }
+    [(path.strip_prefix(above).unwrap().to_path_buf(), fs::read(path).unwrap())].into()
+}
+
+#[test]
+fn the_copies_are_the_repositorys() {
     let package = Path::new(env!("CARGO_MANIFEST_DIR"));
-    for (copy, original) in
-        [("README.md", "README.md"), ("NOTICE", "NOTICE"), ("docs/REFERENCE.md", "docs/REFERENCE.md")]
-    {
-        let read = |path: &Path| std::fs::read(path).unwrap();
-        assert_eq!(
-            read(&package.join(copy)),
-            read(&package.join("..").join(original)),
-            "{copy} is the repository's"
-        );
+    let repository = package.join("..");
+    for of in ["README.md", "NOTICE", "include", "docs"] {
+        let (copy, original) = (files(package, &package.join(of)), files(&repository, &repository.join(of)));
+        let names = |of: &BTreeMap<PathBuf, Vec<u8>>| of.keys().cloned().collect::<Vec<_>>();
+        assert_eq!(names(&copy), names(&original), "host/{of}: `bash tools/copies` copies it again");
+        for (name, text) in original {
+            assert!(copy[&name] == text, "host/{}: `bash tools/copies` copies it again", name.display());
+            assert!(!package.join(&name).is_symlink(), "the toolchain's gate refuses links");
+        }
     }
 }
 

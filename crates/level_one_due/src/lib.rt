@@ -1,4 +1,4 @@
-// Level One, what is due of a chain, as a host calls it.
+// Level One, what is due of a chain, as a host calls it through level_one_c.
 #![tactic(auto)]
 
 ghost use Rattle.std.specs.Prelude.{List, [], ◌∷◌, ◌≡◌, ℕ};
@@ -47,8 +47,7 @@ fn due_result(d: Due) -> DueResult
 }
 
 // How many links of p's chain are due in a window that begins with the dot `from` and ends before `to` (REFERENCE, Frame clock).
-#[unsafe(no_mangle)]
-pub extern "C" fn chain_arena_due_count(
+pub fn chain_arena_due_count(
     prev: &[u32],
     next: &[u32],
     generation: &[u32],
@@ -82,8 +81,7 @@ pub extern "C" fn chain_arena_due_count(
 
 // Reports the slots of the links of p's chain that are due in such a window, in the order of a walk from p, and answers how many
 // (REFERENCE, Frame clock).
-#[unsafe(no_mangle)]
-pub extern "C" fn chain_arena_due_events(
+pub fn chain_arena_due_events(
     prev: &[u32],
     next: &[u32],
     generation: &[u32],

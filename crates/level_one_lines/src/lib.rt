@@ -1,4 +1,4 @@
-// Level One, the lines and dots of the frame, as a host calls it.
+// Level One, the lines and dots of the frame, as a host calls it through level_one_c.
 #![tactic(auto)]
 
 ghost use Rattle.std.specs.Prelude.{[], ◌∷◌, ◌≡◌};
@@ -24,8 +24,7 @@ pub struct LineDotsResult {
 }
 
 // The line that a dot of the frame is in (REFERENCE, Frame clock).
-#[unsafe(no_mangle)]
-pub extern "C" fn chain_arena_line_of_dot(dot: u32) -> LineResult
+pub fn chain_arena_line_of_dot(dot: u32) -> LineResult
     ensures { told result.number (result.line ∷ []) ≡ line_of_dot dot }
 {
     if dot >= DOTS {
@@ -41,8 +40,7 @@ pub extern "C" fn chain_arena_line_of_dot(dot: u32) -> LineResult
 }
 
 // The first and the last dot of a line of the frame (REFERENCE, Frame clock).
-#[unsafe(no_mangle)]
-pub extern "C" fn chain_arena_line_dots(line: u32) -> LineDotsResult
+pub fn chain_arena_line_dots(line: u32) -> LineDotsResult
     ensures { told result.number (result.first ∷ result.last ∷ []) ≡ line_dots line }
 {
     if line >= LINES {

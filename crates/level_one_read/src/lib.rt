@@ -1,4 +1,4 @@
-// Level One, the check of an arena and reading links and neighbours, as a host calls it.
+// Level One, the check of an arena and reading links and neighbours, as a host calls it through level_one_c.
 #![tactic(auto)]
 
 ghost use Rattle.std.specs.Prelude.{[], ◌∷◌};
@@ -33,8 +33,7 @@ pub struct NeighborsResult {
 
 // Whether the lent arena can be worked with: 0, or the number of the first rule that fails. Every other call makes this check first
 // (REFERENCE, Check).
-#[unsafe(no_mangle)]
-pub extern "C" fn chain_arena_check(
+pub fn chain_arena_check(
     prev: &[u32],
     next: &[u32],
     generation: &[u32],
@@ -47,8 +46,7 @@ pub extern "C" fn chain_arena_check(
 }
 
 // The link at p and its neighbours with their generations (REFERENCE, Reading).
-#[unsafe(no_mangle)]
-pub extern "C" fn chain_arena_get_link(
+pub fn chain_arena_get_link(
     prev: &[u32],
     next: &[u32],
     generation: &[u32],
@@ -96,8 +94,7 @@ pub extern "C" fn chain_arena_get_link(
 }
 
 // The link at p (REFERENCE, Reading).
-#[unsafe(no_mangle)]
-pub extern "C" fn chain_arena_get_link_no_gen(
+pub fn chain_arena_get_link_no_gen(
     prev: &[u32],
     next: &[u32],
     generation: &[u32],
@@ -139,8 +136,7 @@ pub extern "C" fn chain_arena_get_link_no_gen(
 }
 
 // Whether the next of p_prev is p_next; no where either is stale (REFERENCE, Reading).
-#[unsafe(no_mangle)]
-pub extern "C" fn chain_arena_are_neighbors(
+pub fn chain_arena_are_neighbors(
     prev: &[u32],
     next: &[u32],
     generation: &[u32],

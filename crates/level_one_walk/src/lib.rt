@@ -1,4 +1,4 @@
-// Level One, the walk along a chain, as a host calls it.
+// Level One, the walk along a chain, as a host calls it through level_one_c.
 #![tactic(auto)]
 
 ghost use Rattle.std.specs.Prelude.{[], ◌∷◌};
@@ -36,8 +36,7 @@ pub struct StepResult {
 }
 
 // Begins a walk at p (REFERENCE, Walk).
-#[unsafe(no_mangle)]
-pub extern "C" fn chain_arena_walk_start(
+pub fn chain_arena_walk_start(
     prev: &[u32],
     next: &[u32],
     generation: &[u32],
@@ -82,8 +81,7 @@ pub extern "C" fn chain_arena_walk_start(
 }
 
 // One step of a walk: the link at the position, or none, and the next state. A refused step gives its state back as it got it (REFERENCE, Walk).
-#[unsafe(no_mangle)]
-pub extern "C" fn chain_arena_walk_step(
+pub fn chain_arena_walk_step(
     prev: &[u32],
     next: &[u32],
     generation: &[u32],

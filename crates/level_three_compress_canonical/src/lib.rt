@@ -1,4 +1,4 @@
-// Level Three, canonical compression, as a host calls it.
+// Level Three, canonical compression, as a host calls it through level_three_c.
 #![tactic(auto)]
 
 ghost use Rattle.definitions.specs.Arena.{arena};
@@ -11,8 +11,7 @@ use compress_canonical::compress_canonical;
 
 // Lays the chains out one behind the other, each along next, in a new generation; the where-from column says for each slot which one its link was in
 // before. Reset, where it is not 0, makes the generation 2 (REFERENCE, Canonical compression).
-#[unsafe(no_mangle)]
-pub extern "C" fn chain_arena_compress_canonical(
+pub fn chain_arena_compress_canonical(
     prev: &mut [u32],
     next: &mut [u32],
     generation: &mut [u32],

@@ -1,4 +1,4 @@
-// Level Three, order-preserving compression, as a host calls it.
+// Level Three, order-preserving compression, as a host calls it through level_three_c.
 #![tactic(auto)]
 
 ghost use Rattle.definitions.specs.Arena.{arena};
@@ -11,8 +11,7 @@ use compress_with::compress_with;
 
 // Moves the links to the front in the order of their slots, in a new generation, and reports for each its old slot and generation and its new ones.
 // Reset, where it is not 0, makes the generation 2 (REFERENCE, Order-preserving compression).
-#[unsafe(no_mangle)]
-pub extern "C" fn chain_arena_compress_with(
+pub fn chain_arena_compress_with(
     prev: &mut [u32],
     next: &mut [u32],
     generation: &mut [u32],

@@ -1,4 +1,4 @@
-// Level Two, the drain of a chain, as a host calls it.
+// Level Two, the drain of a chain, as a host calls it through level_two_c.
 #![tactic(auto)]
 
 ghost use Rattle.std.specs.Prelude.{List, [], ◌∷◌, ◌≡◌, ℕ};
@@ -45,8 +45,7 @@ fn drain_result(d: Drained) -> DrainResult
 }
 
 // Removes every link of p's chain, in the order of a walk from p, and reports each as it is when its turn comes, in five words (REFERENCE, Drain).
-#[unsafe(no_mangle)]
-pub extern "C" fn chain_arena_drain(
+pub fn chain_arena_drain(
     prev: &mut [u32],
     next: &mut [u32],
     generation: &mut [u32],

@@ -1,4 +1,4 @@
-// Level Two, the edits of interlinks, as a host calls them.
+// Level Two, the edits of interlinks, as a host calls them through level_two_c.
 #![tactic(auto)]
 
 ghost use Rattle.definitions.specs.Arena.{arena};
@@ -12,8 +12,7 @@ use chain_edits::{break_next, break_prev, connect, exchange_next};
 use ptr::{Gen, Ptr, Slot};
 
 // Joins the end p_prev to the start p_next (REFERENCE, Connect).
-#[unsafe(no_mangle)]
-pub extern "C" fn chain_arena_connect(
+pub fn chain_arena_connect(
     prev: &mut [u32],
     next: &mut [u32],
     generation: &[u32],
@@ -43,8 +42,7 @@ pub extern "C" fn chain_arena_connect(
 }
 
 // Takes the interlink between p and its prev away (REFERENCE, Break).
-#[unsafe(no_mangle)]
-pub extern "C" fn chain_arena_break_prev(
+pub fn chain_arena_break_prev(
     prev: &mut [u32],
     next: &mut [u32],
     generation: &[u32],
@@ -68,8 +66,7 @@ pub extern "C" fn chain_arena_break_prev(
 }
 
 // Takes the interlink between p and its next away (REFERENCE, Break).
-#[unsafe(no_mangle)]
-pub extern "C" fn chain_arena_break_next(
+pub fn chain_arena_break_next(
     prev: &mut [u32],
     next: &mut [u32],
     generation: &[u32],
@@ -93,8 +90,7 @@ pub extern "C" fn chain_arena_break_next(
 }
 
 // Gives each of p0 and p1 the other's next (REFERENCE, Exchange).
-#[unsafe(no_mangle)]
-pub extern "C" fn chain_arena_exchange_next(
+pub fn chain_arena_exchange_next(
     prev: &mut [u32],
     next: &mut [u32],
     generation: &[u32],

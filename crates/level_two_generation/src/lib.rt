@@ -1,4 +1,4 @@
-// Level Two, the current generation and the freelist, as a host calls them.
+// Level Two, the current generation and the freelist, as a host calls them through level_two_c.
 #![tactic(auto)]
 
 ghost use Rattle.definitions.specs.Arena.{arena};
@@ -11,8 +11,7 @@ use base_freelist::{canonicalize_freelist, inc_generation, set_generation};
 use ptr::Gen;
 
 // Makes new_generation the current one; 15 where it is 0 or 1 (REFERENCE, Generation).
-#[unsafe(no_mangle)]
-pub extern "C" fn chain_arena_set_generation(
+pub fn chain_arena_set_generation(
     prev: &[u32],
     next: &[u32],
     generation: &[u32],
@@ -31,8 +30,7 @@ pub extern "C" fn chain_arena_set_generation(
 }
 
 // Raises the current generation; 100 where it overflowed (REFERENCE, Generation).
-#[unsafe(no_mangle)]
-pub extern "C" fn chain_arena_inc_generation(
+pub fn chain_arena_inc_generation(
     prev: &[u32],
     next: &[u32],
     generation: &[u32],
@@ -51,8 +49,7 @@ pub extern "C" fn chain_arena_inc_generation(
 }
 
 // Pops the free slots at the end of the stack and lists the others in rising order (REFERENCE, Freelist).
-#[unsafe(no_mangle)]
-pub extern "C" fn chain_arena_canonicalize_freelist(
+pub fn chain_arena_canonicalize_freelist(
     prev: &mut [u32],
     next: &mut [u32],
     generation: &mut [u32],

@@ -1,4 +1,4 @@
-// Level Two, the insertion of a link, as a host calls it.
+// Level Two, the insertion of a link, as a host calls it through level_two_c.
 #![tactic(auto)]
 
 ghost use Rattle.std.specs.Prelude.{List, [], ◌∷◌, ◌≡◌, ℕ};
@@ -51,8 +51,7 @@ fn insert_result(inserted: Inserted) -> InsertResult
 }
 
 // Inserts a link of the new payload where the kind says, 6 to 19, with the links at p and q if it names them (REFERENCE, Insert).
-#[unsafe(no_mangle)]
-pub extern "C" fn chain_arena_insert(
+pub fn chain_arena_insert(
     prev: &mut [u32],
     next: &mut [u32],
     generation: &mut [u32],

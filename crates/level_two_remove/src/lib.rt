@@ -1,4 +1,4 @@
-// Level Two, the removal of a link, as a host calls it.
+// Level Two, the removal of a link, as a host calls it through level_two_c.
 #![tactic(auto)]
 
 ghost use Rattle.std.specs.Prelude.{List, [], ◌∷◌, ◌≡◌, ℕ};
@@ -41,8 +41,7 @@ fn remove_result(removed: InvalidationResult) -> LinkNoGenResult
 }
 
 // Removes the link at p, and answers what it was (REFERENCE, Remove).
-#[unsafe(no_mangle)]
-pub extern "C" fn chain_arena_remove(
+pub fn chain_arena_remove(
     prev: &mut [u32],
     next: &mut [u32],
     generation: &mut [u32],

@@ -1,4 +1,4 @@
-// Level Two, many edits in one call, as a host calls it.
+// Level Two, many edits in one call, as a host calls it through level_two_c.
 #![tactic(auto)]
 
 ghost use Rattle.definitions.specs.Arena.{arena};
@@ -10,8 +10,7 @@ use answers::{Answer, checked};
 use chain_run::run;
 
 // Runs the commands, six words each, and writes an answer word for each: 0, 100, 12, 13, 16, 17 or 18 (REFERENCE, Run).
-#[unsafe(no_mangle)]
-pub extern "C" fn chain_arena_run(
+pub fn chain_arena_run(
     prev: &mut [u32],
     next: &mut [u32],
     generation: &mut [u32],

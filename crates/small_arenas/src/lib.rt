@@ -1,4 +1,4 @@
-// All small arenas, in order, as a host calls for them: an archive of its own.
+// All small arenas, in order, as a host calls for them through small_arenas_c, an archive of its own.
 #![tactic(auto)]
 
 ghost use Rattle.std.specs.Prelude.{[], ◌∷◌, ◌≡◌};
@@ -47,8 +47,7 @@ fn small_result(given: SmallArena) -> SmallArenaResult
 }
 
 // Lays the small arena of an index, from 0 on, into the front of the columns and into the header (REFERENCE, Small arenas).
-#[unsafe(no_mangle)]
-pub extern "C" fn chain_arena_small_arena(
+pub fn chain_arena_small_arena(
     prev: &mut [u32],
     next: &mut [u32],
     generation: &mut [u32],
