@@ -101,7 +101,9 @@ fn every_export_has_edits_in_the_crate_that_exports_it_and_in_two_of_those_below
         let below: Vec<&String> = owners.iter().filter(|owner| **owner != thin).collect();
         assert!(below.len() >= 2, "{export} has {} edits below its export", below.len());
         assert!(
-            below.iter().any(|owner| owner.starts_with(archive.name)),
+            below
+                .iter()
+                .any(|owner| *owner == archive.name || owner.starts_with(&format!("{}_", archive.name))),
             "no edit of {export} is in the function that it calls"
         );
     }
