@@ -20,9 +20,10 @@ pub fn write_number<W: Write>(out: &mut W, number: u32) -> io::Result<()> {
     write!(out, "{number}")
 }
 
-// Ends the line.
+// Ends the line, and hands on what is buffered, so that an answer is seen as soon as it is whole.
 pub fn end_line<W: Write>(out: &mut W) -> io::Result<()> {
-    out.write_all(b"\n")
+    out.write_all(b"\n")?;
+    out.flush()
 }
 
 // Writes a link, as it is or as it was when it was removed.

@@ -89,6 +89,7 @@ fn print_arena<W: Write>(out: &mut W, index: u32) -> io::Result<bool> {
         given.length as usize,
     )?;
     out.write_all(b"\n")?;
+    out.flush()?;
     Ok(true)
 }
 
