@@ -2,8 +2,8 @@
 //! and type, in the same order. Every word is 32 bits wide. The proofs do not hold these places, so faults are planted for each export: any two parameters,
 //! and any two fields, of one type exchanged in the Rattle source are found, and so is a narrower word in any of the three.
 //!
-//! An archive's exports stand in a crate of their own, NAME_c, which only calls. The function that an export calls has its name, its parameters and its
-//! promise, word for word, and is in one of the crates below.
+//! An archive's exports stand in a crate of their own, NAME_c, which only hands on: the five slices of an arena as one struct, the two words of a pointer as a
+//! pointer. The function that an export calls has its name and its promise, of that struct and these pointers, and is in one of the crates below.
 //!
 //! What each export promises follows from its signature, so that is held too: `Answered` of its own call with its own arguments, of the arena at entry and
 //! at exit, of every field and of what is lent; without an arena, that its number and every field are what is defined of its own arguments; where it writes an
@@ -370,15 +370,103 @@ fn every_export_promises_what_its_signature_asks_for_and_asks_nothing() {
     }
 }
 
-/// What an export does: the one statement of its body, on one line.
+/// What an export does: its body, on one line.
 fn body(text: &str, call: &str) -> String {
     let (_, behind) = text.split_once(&format!("fn {call}(")).unwrap();
     let body = between(behind, "\n{\n", "\n}\n");
-    body.split_whitespace().collect::<Vec<_>>().join(" ").replace("( ", "(").replace(", )", ")")
+    let line = body.split_whitespace().collect::<Vec<_>>().join(" ");
+    line.replace("( ", "(").replace(", )", ")").replace(", }", " }").replace(",)", ")")
+}
+
+/// How an export hands on what it is lent: the struct of its five slices, the parameters of the function that it calls, and with what it calls it.
+struct Handed {
+    lent: Option<&'static str>,
+    parameters: Vec<Place>,
+    arguments: Vec<String>,
+}
+
+/// The structs that a lent arena is handed on as, by which of its slices can be written.
+const LENT: [(&str, [bool; 5]); 4] = [
+    ("LentArena", [false; 5]),
+    ("LinksMut", [true, true, false, false, false]),
+    ("HeaderMut", [false, false, false, false, true]),
+    ("ArenaMut", [true; 5]),
+];
+
+/// The words of a walk's state, and how they are handed on as one.
+const STATE: [&str; 4] = ["start", "position", "direction", "left"];
+const WALK: &str = "ChainPtrAdvancer { init: Slot(start), ptr: Slot(position), switch: direction, max_advances: left }";
+
+/// How an export with these parameters hands on: five slices as the struct that fits them, if one does; the two words of a pointer as a pointer; the four of a
+/// walk's state as a walk; all else as it is.
+fn handed(parameters: &[Place]) -> Handed {
+    let as_it_is = |place: &Place| (place.clone(), place.0.clone());
+    let columns = parameters.len() >= 5 && parameters.iter().map(|(name, _)| name).zip(COLUMNS).all(|(name, of)| name == of);
+    let written: Vec<bool> = parameters.iter().take(5).map(|(_, of)| of.starts_with("&mut [")).collect();
+    let lent = LENT.into_iter().find(|(_, of)| columns && written == of).map(|(name, _)| name);
+    let mut places: Vec<(Place, String)> = match lent {
+        None => parameters.iter().take(5).map(as_it_is).collect(),
+        Some(name) => {
+            let changed = if name == "LentArena" { "" } else { "&mut " };
+            let made = format!("{changed}{name} {{ {} }}", COLUMNS.join(", "));
+            vec![(("arena".to_string(), format!("{changed}{name}<'_>")), made)]
+        }
+    };
+    if parameters.iter().skip(5).map(|(name, _)| name).eq(STATE) {
+        places.push((("mut walk".to_string(), "ChainPtrAdvancer".to_string()), WALK.to_string()));
+        let (parameters, arguments) = places.into_iter().unzip();
+        return Handed { lent, parameters, arguments };
+    }
+    for place in parameters.iter().skip(5) {
+        match place.0.strip_suffix("_generation").filter(|name| ends_in_pointer(&places, name)) {
+            Some(name) => {
+                places.pop();
+                let made = format!("Ptr::new({name}_slot, {name}_generation)");
+                places.push(((name.to_string(), "Ptr".to_string()), made));
+            }
+            None => places.push(as_it_is(place)),
+        }
+    }
+    let (parameters, arguments) = places.into_iter().unzip();
+    Handed { lent, parameters, arguments }
+}
+
+/// Whether the last place is the slot of the pointer of this name.
+fn ends_in_pointer(places: &[(Place, String)], name: &str) -> bool {
+    places.last().is_some_and(|((last, _), _)| *last == format!("{name}_slot"))
+}
+
+/// The promise of the function that an export with this promise calls: the same of the struct and of the pointers that it is handed. What can be written stays the same buffers.
+fn handed_on(promise: &str, handed: &Handed) -> String {
+    let mut promise = promise.to_string();
+    for (name, _) in handed.parameters.iter().filter(|(_, of)| of == "Ptr") {
+        promise = promise.replace(&format!("(pointer {name}_slot {name}_generation)"), &format!("(pointer_of {name})"));
+    }
+    let [columns, all] = [COLUMNS.map(|name| format!("{name}.now")), COLUMNS.map(str::to_string)].map(|names| names.join(" "));
+    let (held, same) = match handed.lent {
+        None => return promise,
+        Some("LentArena") => {
+            assert!(!promise.contains(&columns));
+            let lent = "(lent_of arena.entry)";
+            let state = format!("({} ∷ [])", STATE.join(" ∷ "));
+            let promise = promise.replace(&state, "(state_words (walk_of walk))");
+            return promise.replace(&format!("(at_entry {all})"), lent).replace(&format!("(at_exit {all})"), lent);
+        }
+        Some("LinksMut") => ("links_of", "SameLinks"),
+        Some("HeaderMut") => ("header_of", "SameHeader"),
+        Some(_) => ("held_in", "SameBuffers"),
+    };
+    for at in ["old", "new"] {
+        let of = LENT.into_iter().find(|(name, _)| Some(*name) == handed.lent).unwrap().1;
+        let word = |(name, written): (&str, bool)| format!("{name}.{}", if written { at } else { "now" });
+        let words: Vec<String> = COLUMNS.into_iter().zip(of).map(word).collect();
+        promise = promise.replace(&format!("(arena {})", words.join(" ")), &format!("({held} arena.{at})"));
+    }
+    format!("ensures lent {{ {same} arena.old arena.new }} {}", promise.replacen("ensures {", "ensures answered {", 1))
 }
 
 #[test]
-fn every_export_only_calls_the_function_of_its_name_which_promises_the_same() {
+fn every_export_only_hands_on_to_the_function_of_its_name_which_promises_the_same() {
     for archive in ARCHIVES {
         let exports = exporting(archive);
         for call in archive.exports {
@@ -388,13 +476,13 @@ fn every_export_only_calls_the_function_of_its_name_which_promises_the_same() {
                 .collect();
             assert_eq!(owners.len(), 1, "{call} is in {owners:?}");
             let below = source(&owners[0]);
-            assert_eq!(stated(&exports, call), stated(&below, call), "{call}");
-            assert_eq!(parameters(&exports, call), parameters(&below, call), "{call}");
+            let handed = handed(&parameters(&exports, call));
+            assert_eq!(stated(&below, call), handed_on(&stated(&exports, call), &handed), "{call}");
+            assert_eq!(parameters(&below, call), handed.parameters, "{call}");
             assert_eq!(result(&exports, call), result(&below, call), "{call}");
-            let names: Vec<String> = parameters(&exports, call).into_iter().map(|(name, _)| name).collect();
             assert_eq!(
                 body(&exports, call),
-                format!("{}::{call}({})", owners[0], names.join(", ")),
+                format!("{}::{call}({})", owners[0], handed.arguments.join(", ")),
                 "{call}"
             );
         }

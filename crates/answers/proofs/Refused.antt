@@ -13,6 +13,11 @@ use Rattle.definitions.specs.Edit.{next_generation, overflows, inc_generation}
 use Rattle.definitions.specs.Calls.{Call, Check, IncGeneration, accepted, reply_to}
 use Rattle.answers.specs.declared.Answer.{Answer}
 use Rattle.answers.specs.Answered.{Verdict, replied, Answered}
+use Rattle.answers.specs.Words.{answer_of, refusal_answer, done_answer, invalidation_answer}
+use Rattle.std.specs.Prelude.{Result, Ok, Err}
+use Rattle.ptr.specs.declared.InvalidationOption.TheVariants.{Success, GenerationOverflow}
+use Rattle.refusals.specs.declared.Refusal.{Refusal}
+use Rattle.refusals.specs.Refusal.{refusal_number, refusal_slot, refusal_side}
 
 -- a lone link in the generation g
 abbrev lone : ℕ → Arena
@@ -67,6 +72,20 @@ answered_side_refused p = omega (arith, ap (λ (r : Reply). r.side) p)
 
 pub verdict_whole : (a : Arena) (r : Answer) → Verdict a r → (r.number ≡ verdict capacity_limit a) × (r.broken ≡ broken_slot capacity_limit a) × (r.side ≡ broken_side capacity_limit a)
 verdict_whole a r v = (v.number, v.broken, v.side)
+
+pub answer_of_whole : (k : ℕ) → ((answer_of k).number ≡ k) × ((answer_of k).broken ≡ 0) × ((answer_of k).side ≡ 0)
+answer_of_whole k = (refl, refl, refl)
+
+pub refusal_answer_whole : (r : Refusal) → ((refusal_answer r).number ≡ refusal_number r) × ((refusal_answer r).broken ≡ refusal_slot r) × ((refusal_answer r).side ≡ refusal_side r)
+refusal_answer_whole r = (refl, refl, refl)
+
+pub done_answer_whole : ((u : Unit {0}) → done_answer (Ok u) ≡ answer 0 0 0) × ((r : Refusal) → done_answer (Err r) ≡ answer (refusal_number r) (refusal_slot r) (refusal_side r))
+done_answer_whole = (λ u. refl, λ r. refl)
+
+pub invalidation_answer_whole : (invalidation_answer (Ok Success) ≡ answer 0 0 0)
+    × (invalidation_answer (Ok GenerationOverflow) ≡ answer 100 0 0)
+    × ((r : Refusal) → invalidation_answer (Err r) ≡ answer (refusal_number r) (refusal_slot r) (refusal_side r))
+invalidation_answer_whole = (refl, refl, λ r. refl)
 
 pub replied_whole : (r : Answer) (fields : List ℕ) (left : Arena) (back : List ℕ) →
     ((replied r fields left back).number ≡ r.number)

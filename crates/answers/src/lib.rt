@@ -2,10 +2,15 @@
 #![tactic(auto)]
 
 ghost use Rattle.std.specs.Prelude.{◌≡◌};
-ghost use Rattle.definitions.specs.Lent.{at_entry};
+ghost use Rattle.ptr.specs.Extra.{invalidation_number};
+ghost use Rattle.lent.specs.Arenas.{lent_of};
 ghost use Rattle.answers.specs.Answered.{Verdict};
+ghost use Rattle.answers.specs.Words.{answer_of, refusal_answer, done_answer, invalidation_answer};
 
 use chain_arena::check;
+use lent::LentArena;
+use ptr::InvalidationOption;
+use refusals::Refusal;
 
 // What the result of every exported call on an arena begins with: its number, and with 11 the lowest slot at which that rule fails and the side, 1 for prev and 2 for next; in every
 // other case slot and side are 0 (REFERENCE, Replies).
@@ -20,12 +25,58 @@ pub struct Answer {
 impl Answer {
     // The answer of a call on an arena that passed the check.
     pub fn of(number: u32) -> Answer
-        ensures { (result.number ≡ number) × (result.broken ≡ 0) × (result.side ≡ 0) }
+        ensures { result ≡ answer_of number }
     {
         Answer {
-            number: number,
+            number,
             broken: 0,
             side: 0,
+        }
+    }
+}
+
+// The answer of a call that is refused.
+impl From<Refusal> for Answer {
+    ghost from_gives = { λ r a. a ≡ refusal_answer r };
+
+    fn from(refusal: Refusal) -> Answer {
+        Answer {
+            number: refusal.number(),
+            broken: refusal.slot(),
+            side: refusal.side(),
+        }
+    }
+}
+
+// The answer of a call that cannot be refused: whether the generation overflowed.
+impl From<InvalidationOption> for Answer {
+    ghost from_gives = { λ o a. a ≡ answer_of (invalidation_number o) };
+
+    fn from(option: InvalidationOption) -> Answer {
+        Answer::of(option.number())
+    }
+}
+
+// The answer of a call that is done or refused.
+impl From<Result<(), Refusal>> for Answer {
+    ghost from_gives = { λ r a. a ≡ done_answer r };
+
+    fn from(done: Result<(), Refusal>) -> Answer {
+        match done {
+            Ok(()) => Answer::of(0),
+            Err(refusal) => Answer::from(refusal),
+        }
+    }
+}
+
+// The answer of a call that is done, and may have let the generation overflow, or is refused.
+impl From<Result<InvalidationOption, Refusal>> for Answer {
+    ghost from_gives = { λ r a. a ≡ invalidation_answer r };
+
+    fn from(done: Result<InvalidationOption, Refusal>) -> Answer {
+        match done {
+            Ok(option) => Answer::from(option),
+            Err(refusal) => Answer::from(refusal),
         }
     }
 }
@@ -41,22 +92,12 @@ pub struct LinkNoGenResult {
 }
 
 // The check of a lent arena, as it is answered: 0, or the refusal of every call on this arena.
-pub fn checked(
-    prev: &[u32],
-    next: &[u32],
-    generation: &[u32],
-    payload: &[u32],
-    header: &[u32],
-) -> Answer
-    ensures { Verdict (at_entry prev next generation payload header) result }
+#[tactic(auto, using(crate::proofs::Exports::verdict_passed, crate::proofs::Exports::verdict_refused))]
+pub fn checked(arena: LentArena<'_>) -> Answer
+    ensures { Verdict (lent_of arena.entry) result }
 {
-    let found = check(prev, next, generation, payload, header);
-    let refusal = found.number();
-    let slot = found.broken();
-    let side = found.side();
-    Answer {
-        number: refusal,
-        broken: slot,
-        side: side,
+    match check(arena) {
+        Ok(_) => Answer::of(0),
+        Err(refusal) => Answer::from(refusal),
     }
 }

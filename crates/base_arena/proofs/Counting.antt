@@ -1,5 +1,5 @@
 -- The links among the first slots, one slot more at a time, as the counting loop reads them. Assumes nothing.
-use Prim.Native.Nat.{ℕ, suc, ◌+◌, ◌-◌, ◌<◌}
+use Prim.Native.Nat.{ℕ, suc, ◌+◌, ◌-◌, ◌≤◌, ◌<◌}
 use mathlib.Core.Path.{◌≡◌, refl, ◌∙◌}
 use mathlib.Core.Bool.{cond, not}
 use mathlib.Core.List.{List}
@@ -10,6 +10,7 @@ use lib.Dec.{eqb}
 use Rattle.definitions.specs.Columns.{keep, slots_from}
 use Rattle.definitions.specs.Arena.{allocated, link_slots, free_slots}
 use Rattle.definitions.specs.Check.{freelist_walk, counts_of}
+use Rattle.definitions.proofs.Tests.{tests}
 use Rattle.definitions.proofs.Columns.{at_suc}
 use Rattle.definitions.proofs.Slots.{allocated_yes, allocated_free, keep_more, keep_same, links_and_free}
 
@@ -39,9 +40,32 @@ module _ (gs : List ℕ) (n : ℕ) where
   pub free_left : (k : ℕ) → k ≡ length (link_slots gs n) → n - k ≡ length (free_slots gs n)
   free_left k e = omega (arith, links_and_free gs n)
 
-  -- refusals 4 to 10, from the number k of links that was counted
-  pub by_count : (ns : List ℕ) (m s k r : ℕ) → k ≡ length (link_slots gs n) →
-      r ≡ cond (not (eqb m k)) 4 (cond (eqb s 0) (cond (eqb (n - k) 0) 0 5) (cond (eqb (n - k) 0) 5 (freelist_walk ns gs n (n + 2) s 0)))
-      → r ≡ counts_of ns gs n m s
+-- refusals 4 to 10, from the number k of links that was counted
+module _ (ns gs : List ℕ) (n m s k : ℕ) (counted : k ≡ length (link_slots gs n)) where
+  by_count : (r : ℕ) → r ≡ cond (not (eqb m k)) 4 (cond (eqb s 0) (cond (eqb (n - k) 0) 0 5) (cond (eqb (n - k) 0) 5 (freelist_walk ns gs n (n + 2) s 0))) → r ≡ counts_of ns gs n m s
   unfolding counts_of
-  by_count ns m s k r e q = rw (← free_left k e, ← e) q
+  by_count r q = rw (← free_left gs n k counted, ← counted) q
+
+  pub count_differs : (m ≡ k → ⊥) → 4 ≡ counts_of ns gs n m s
+  count_differs d = by_count 4 (search tests)
+
+  module _ (same : m ≡ k) where
+    pub root_but_no_free : (s ≡ 0 → ⊥) → n - k ≡ 0 → 5 ≡ counts_of ns gs n m s
+    root_but_no_free some none = by_count 5 (search tests)
+
+    pub free_but_no_root : s ≡ 0 → (n - k ≡ 0 → ⊥) → 5 ≡ counts_of ns gs n m s
+    free_but_no_root none some = by_count 5 (search tests)
+
+    pub none_free : s ≡ 0 → n - k ≡ 0 → 0 ≡ counts_of ns gs n m s
+    none_free e f = by_count 0 (search tests)
+
+    pub walked : (r : ℕ) → (s ≡ 0 → ⊥) → (n - k ≡ 0 → ⊥) → r ≡ freelist_walk ns gs n (n + 2) s 0 → r ≡ counts_of ns gs n m s
+    walked r d f q = by_count r (search tests)
+
+-- how many are links, at the most
+pub links_at_most : (gs : List ℕ) (n k : ℕ) → k ≡ length (link_slots gs n) → k ≤ n
+links_at_most gs n k e = omega (arith, links_and_free gs n)
+
+pub ruleset counting_links = (links_none, links_all, links_more, links_same)
+
+pub ruleset counting_slots = (free_left, count_differs, root_but_no_free, free_but_no_root, none_free, walked, links_at_most)

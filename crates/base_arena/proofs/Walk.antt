@@ -7,11 +7,10 @@ use native.Mathlib.Omega.{arith}
 use native.Mathlib.Numerals.{sub-one}
 use lib.ListN.{length, get_or}
 use lib.Dec.{eqb, ltb}
-use borrow.Author.Tests.{eqb-false, ltb-false}
 use Rattle.definitions.specs.Columns.{at, count}
 use Rattle.definitions.specs.Arena.{allocated, link_slots, free_slots}
 use Rattle.definitions.specs.Check.{freelist_walk}
-use Rattle.definitions.proofs.Tests.{by_test, not_eq}
+use Rattle.definitions.proofs.Tests.{by_test, tests}
 use Rattle.definitions.proofs.Columns.{at_place}
 use Rattle.definitions.proofs.Slots.{not_allocated, links_and_free}
 use Rattle.definitions.proofs.Count.{once_one, once_among, in_only, shorter, count_links}
@@ -48,14 +47,38 @@ module _ (ns gs : List ℕ) (n : ℕ) where
   walk_visits visited (suc i) h = rw (one_left visited h, sub-one) refl
 
   -- what a visit answers is what the walk from the root answers
-  pub visit_answers :
-      (root visited s free r : ℕ)
-      → visited < n + 2
+  visit_answers :
+      (root visited s r : ℕ)
       → walk_after visited s ≡ freelist_walk ns gs n (n + 2) root 0
-      → free ≡ length (free_slots gs n)
-      → r ≡ visit free visited s (walk_after (visited + 1) (get_or ns (s - 1) 0))
+      → visited < n + 2
+      → r ≡ visit (length (free_slots gs n)) visited s (walk_after (visited + 1) (get_or ns (s - 1) 0))
       → r ≡ freelist_walk ns gs n (n + 2) root 0
-  visit_answers root visited s free r h e f q = q ∙ rw f (walk_visits visited s h) ∙ e
+  visit_answers root visited s r e h q = q ∙ walk_visits visited s h ∙ e
+
+  -- so each of its ends does, and where it finds none the walk after it
+  module _ (root visited s : ℕ) (e : walk_after visited s ≡ freelist_walk ns gs n (n + 2) root 0) (h : visited < n + 2) where
+    pub visit_zero : s ≡ 0 → 6 ≡ freelist_walk ns gs n (n + 2) root 0
+    visit_zero z = visit_answers root visited s 6 e h (search tests)
+
+    module _ (some : s ≡ 0 → ⊥) where
+      pub visit_above : n < s → 7 ≡ freelist_walk ns gs n (n + 2) root 0
+      visit_above above = visit_answers root visited s 7 e h (search tests)
+
+      module _ (within : s ≤ n) where
+        pub visit_link : not (eqb (get_or gs (s - 1) 0) 0) ≡ true → 8 ≡ freelist_walk ns gs n (n + 2) root 0
+        visit_link link = visit_answers root visited s 8 e h (search tests)
+
+        module _ (free : not (eqb (get_or gs (s - 1) 0) 0) ≡ false) where
+          pub visit_misses : get_or ns (s - 1) 0 ≡ s → visited + 1 < length (free_slots gs n) → 10 ≡ freelist_walk ns gs n (n + 2) root 0
+          visit_misses last few = visit_answers root visited s 10 e h (search tests)
+
+          pub visit_whole : get_or ns (s - 1) 0 ≡ s → length (free_slots gs n) ≤ visited + 1 → 0 ≡ freelist_walk ns gs n (n + 2) root 0
+          visit_whole last all = visit_answers root visited s 0 e h (search tests)
+
+          pub visit_goes_on : (get_or ns (s - 1) 0 ≡ s → ⊥) → walk_after (visited + 1) (get_or ns (s - 1) 0) ≡ freelist_walk ns gs n (n + 2) root 0
+          visit_goes_on on = visit_answers root visited s _ e h (search tests)
+
+pub ruleset visits = (walk_starts, walk_ends, visit_zero, visit_above, visit_link, visit_misses, visit_whole, visit_goes_on)
 
 -- where all n slots are free no visit meets a link
 module _ (gs : List ℕ) (n : ℕ) (all : n ≡ length (free_slots gs n)) where
@@ -68,26 +91,6 @@ module _ (gs : List ℕ) (n : ℕ) (all : n ≡ length (free_slots gs n)) where
       one_among : allocated gs n s ≡ true → (x : ℕ) → count x (s ∷ []) ≤ count x (link_slots gs n)
       one_among l = once_among (s ∷ []) (link_slots gs n) (once_one s) (λ x i. rw (in_only x s i) (omega (arith, count_links gs n s l)))
 
-  -- one visit of the code, which asks for no generation
-  abbrev pub free_visit : List ℕ → ℕ → ℕ → ℕ → ℕ
-  free_visit ns visited s rest = cond (eqb s 0) 6 (cond (ltb n s) 7 (cond (eqb (get_or ns (s - 1) 0) s) (cond (ltb (visited + 1) n) 10 0) rest))
-
-  pub free_visit_answers :
-      (ns : List ℕ) (root visited s r : ℕ)
-      → visited < n + 2
-      → walk_after ns gs n visited s ≡ freelist_walk ns gs n (n + 2) root 0
-      → r ≡ free_visit ns visited s (walk_after ns gs n (visited + 1) (get_or ns (s - 1) 0))
-      → r ≡ freelist_walk ns gs n (n + 2) root 0
-  free_visit_answers ns root visited s r h e q = visit_answers ns gs n root visited s n r h e all (q ∙ same)
-    where
-      rest : ℕ
-      rest = walk_after ns gs n (visited + 1) (get_or ns (s - 1) 0)
-
-      free_here : ltb n s ≡ false → eqb s 0 ≡ false → not (eqb (get_or gs (s - 1) 0) 0) ≡ false
-      free_here w z = not_eq _ _ (at_place gs s (eqb-false s 0 z) ∙ none_is_link s (omega (arith, eqb-false s 0 z)) (ltb-false n s w))
-
-      same : free_visit ns visited s rest ≡ visit ns gs n n visited s rest
-      same =
-          by_test (eqb s 0)
-          (λ z. rw z refl)
-          (λ z. by_test (ltb n s) (λ w. rw (z, w) refl) (λ w. rw (z, w, free_here w z) refl))
+  -- as the code reads it
+  pub free_here : (s : ℕ) → 0 < s → s ≤ n → get_or gs (s - 1) 0 ≡ 0
+  free_here s p h = at_place gs s (λ z. omega arith) ∙ none_is_link s (omega arith) h

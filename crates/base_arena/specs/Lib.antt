@@ -1,2 +1,1 @@
-pub mod AllFree
 pub mod Shape

@@ -1,165 +1,139 @@
 // The check of slots and freelist (arena/base_arena.rs, `_check_invariants`): refusals 1 to 10 of a lent arena.
 #![tactic(auto)]
 
-ghost use Rattle.std.specs.Prelude.{◌≡◌, ◌+◌, ◌≤◌, length};
+ghost use Rattle.std.specs.Prelude.{◌≡◌, ◌+◌, ◌-◌, ◌≤◌, ◌<◌, not, eqb, get_or, length, IsTrue};
 ghost use Rattle.definitions.specs.Arena.{capacity_limit, link_slots, free_slots};
-ghost use Rattle.definitions.specs.Lent.{at_entry};
 ghost use Rattle.definitions.specs.Check.{misshapen, freelist_walk, counts_of};
-ghost use Rattle.base_arena.specs.AllFree.{WalksAllFree};
-ghost use Rattle.base_arena.specs.Shape.{shape_of};
+ghost use Rattle.lent.specs.Arenas.{lent_of};
+ghost use Rattle.refusals.specs.Refusal.{ok_or_number};
+ghost use Rattle.base_arena.specs.Shape.{Shapes};
 
 use header::{CURRENT_GENERATION, HEADER_WORDS, LINK_COUNT, STACK_LENGTH};
+use lent::{ArenaRef, LentArena};
+use refusals::Refusal;
 
 // The largest capacity: no slot is above it.
 pub const CAPACITY_LIMIT: usize = 1048576;
 
 // Whether the lengths of columns and header are wrong: refusal 1.
-pub fn is_misshapen(
-    prev: &[u32],
-    next: &[u32],
-    generation: &[u32],
-    payload: &[u32],
-    header: &[u32],
-) -> bool
-    ensures { result ≡ misshapen capacity_limit (at_entry prev next generation payload header) }
+#[tactic(auto, unfolding(definitions::specs::Check::misshapen))]
+pub fn is_misshapen(arena: LentArena<'_>) -> bool
+    ensures { result ≡ misshapen capacity_limit (lent_of arena.entry) }
 {
-    let capacity = prev.len();
-    if header.len() != HEADER_WORDS {
-        return true;
-    }
-    if CAPACITY_LIMIT < capacity {
-        return true;
-    }
-    if next.len() != capacity {
-        return true;
-    }
-    if generation.len() != capacity {
-        return true;
-    }
-    if payload.len() != capacity {
-        return true;
-    }
-    false
+    let capacity = arena.prev.len();
+    arena.header.len() != HEADER_WORDS
+        || CAPACITY_LIMIT < capacity
+        || arena.next.len() != capacity
+        || arena.generation.len() != capacity
+        || arena.payload.len() != capacity
 }
 
-// Refusals 1 to 3, or 0.
-pub fn shape(prev: &[u32], next: &[u32], generation: &[u32], payload: &[u32], header: &[u32]) -> u32
-    ensures { result ≡ shape_of capacity_limit (at_entry prev next generation payload header) }
+// Refusals 1 to 3, or the arena, which has the shape of one.
+#[tactic(auto, using(crate::proofs::Refusals::header_if_sized, crate::proofs::Refusals::shaped_if_within), unfolding(crate::specs::Shape::shape_of))]
+pub fn shape(arena: LentArena<'_>) -> Result<ArenaRef<'_>, Refusal>
+    ensures { Shapes (lent_of arena.entry) result }
 {
-    if is_misshapen(prev, next, generation, payload, header) {
-        return 1;
+    if is_misshapen(arena) {
+        return Err(Refusal::Shape);
     }
-    let capacity = prev.len();
+    let capacity = arena.prev.len();
+    let header = arena.header;
     if header[CURRENT_GENERATION] < 2 {
-        return 2;
+        return Err(Refusal::CurrentGeneration);
     }
-    if capacity < (header[LINK_COUNT] as usize) {
-        return 3;
+    if capacity < header[LINK_COUNT] as usize || capacity < header[STACK_LENGTH] as usize {
+        return Err(Refusal::OverCapacity);
     }
-    if capacity < (header[STACK_LENGTH] as usize) {
-        return 3;
-    }
-    0
+    Ok(arena.shaped())
 }
 
-// How many of the first n slots are allocated. (The count is as wide as a generation, so that several slots are counted at a time.)
-pub fn allocated_slots(generation: &[u32], n: usize) -> u32
-    requires { (n ≤ length generation.now) × (n ≤ capacity_limit) }
-    ensures { result ≡ length (link_slots generation.now n) }
+// How many slots of a stack are allocated. (The count is as wide as a generation, so that several slots are counted at a time.)
+#[tactic(auto, using(crate::proofs::Counting::counting_links))]
+pub fn allocated_slots(generation: &[u32]) -> u32
+    requires { length generation.now ≤ capacity_limit }
+    ensures { result ≡ length (link_slots generation.now (length generation.now)) }
 {
     let mut allocated: u32 = 0;
-    let mut i: usize = 0;
-    while i < n {
-        if generation[i] != 0 {
+    for g in generation {
+        if *g != 0 {
             allocated += 1;
         }
-        i += 1;
     }
     allocated
 }
 
-// Walks the freelist from the root over the first n slots, of which so many are free: refusals 6 to 10, or 0.
-pub fn freelist(next: &[u32], generation: &[u32], n: usize, root: usize, free: usize) -> u32
-    requires { (n ≤ length next.now) × (n ≤ length generation.now) × (n ≤ capacity_limit) × (free ≡ length (free_slots generation.now n)) }
-    ensures { result ≡ freelist_walk next.now generation.now n (n + 2) root 0 }
+// Whether a slot of a stack is a link. Where each slot is free none is, and no generation is read.
+#[tactic(auto, using(crate::proofs::Walk::free_here))]
+fn is_link<const ALL_FREE: bool>(generation: &[u32], slot: usize) -> bool
+    requires in_stack { (0 < slot) × (slot ≤ length generation.now) }
+    requires all_free { IsTrue ALL_FREE → length generation.now ≡ length (free_slots generation.now (length generation.now)) }
+    ensures { result ≡ not (eqb (get_or generation.now (slot - 1) 0) 0) }
 {
-    let mut visited: usize = 0;
-    let mut slot: usize = root;
-    while visited < n + 2 {
+    !ALL_FREE && generation[slot - 1] != 0
+}
+
+// Walks the freelist of a stack, of which so many slots are free, from the root: refusals 6 to 10. Where each slot is free, no generation is read.
+#[tactic(auto, using(crate::proofs::Walk::visits))]
+pub fn freelist<const ALL_FREE: bool>(
+    next: &[u32],
+    generation: &[u32],
+    root: usize,
+    free: usize,
+) -> Result<(), Refusal>
+    requires same_length { length next.now ≡ length generation.now }
+    requires small { length generation.now ≤ capacity_limit }
+    requires counted { free ≡ length (free_slots generation.now (length generation.now)) }
+    requires all_free { IsTrue ALL_FREE → free ≡ length generation.now }
+    ensures { ok_or_number result ≡ freelist_walk next.now generation.now (length generation.now) (length generation.now + 2) root 0 }
+{
+    let n = generation.len();
+    let mut slot = root;
+    for visited in 0..n + 2 {
         if slot == 0 {
-            return 6;
+            return Err(Refusal::FreelistZero);
         }
         if n < slot {
-            return 7;
+            return Err(Refusal::FreelistAboveStack);
         }
         // where the list goes on is read before whether the slot is free: that is what takes longest to come
         let to = next[slot - 1] as usize;
-        visited += 1;
         if to == slot {
-            if generation[slot - 1] != 0 {
-                return 8;
+            if is_link::<ALL_FREE>(generation, slot) {
+                return Err(Refusal::FreelistLink);
             }
-            if visited < free {
-                return 10;
+            if visited + 1 < free {
+                return Err(Refusal::FreelistIncomplete);
             }
-            return 0;
+            return Ok(());
         }
-        if generation[slot - 1] != 0 {
-            return 8;
+        if is_link::<ALL_FREE>(generation, slot) {
+            return Err(Refusal::FreelistLink);
         }
         slot = to;
     }
-    9
+    Err(Refusal::FreelistEndless)
 }
 
-// The same walk where each of the first n slots is free: it can meet no link, so no generation is read.
-pub fn freelist_of_all(next: &[u32], n: usize, root: usize) -> u32
-    requires { (n ≤ length next.now) × (n ≤ capacity_limit) }
-    ensures { WalksAllFree next.now n root result }
+// Refusals 4 to 10 of a stack with the link count and the root that the header says.
+#[tactic(auto, using(crate::proofs::Counting::counting_slots))]
+pub fn counts(next: &[u32], generation: &[u32], links: u32, root: usize) -> Result<(), Refusal>
+    requires { (length next.now ≡ length generation.now) × (length generation.now ≤ capacity_limit) }
+    ensures { ok_or_number result ≡ counts_of next.now generation.now (length generation.now) links root }
 {
-    let mut visited: usize = 0;
-    let mut slot: usize = root;
-    while visited < n + 2usize {
-        if slot == 0 {
-            return 6;
-        }
-        if n < slot {
-            return 7;
-        }
-        let to = next[slot - 1] as usize;
-        visited += 1;
-        if to == slot {
-            if visited < n {
-                return 10;
-            }
-            return 0;
-        }
-        slot = to;
-    }
-    9
-}
-
-// Refusals 4 to 10, or 0: of the first n slots, with the link count and the root that the header says.
-pub fn counts(next: &[u32], generation: &[u32], n: usize, links: u32, root: usize) -> u32
-    requires { (n ≤ length next.now) × (n ≤ length generation.now) × (n ≤ capacity_limit) }
-    ensures { result ≡ counts_of next.now generation.now n links root }
-{
-    let allocated = allocated_slots(generation, n);
+    let n = generation.len();
+    let allocated = allocated_slots(generation);
     if links != allocated {
-        return 4;
+        return Err(Refusal::LinkCount);
     }
     let free = n - allocated as usize;
-    if root == 0 {
-        if free == 0 {
-            return 0;
-        }
-        return 5;
+    if (root == 0) != (free == 0) {
+        return Err(Refusal::Root);
     }
-    if free == 0 {
-        return 5;
+    if root == 0 {
+        return Ok(());
     }
     if free == n {
-        return freelist_of_all(next, n, root);
+        return freelist::<true>(next, generation, root, free);
     }
-    freelist(next, generation, n, root, free)
+    freelist::<false>(next, generation, root, free)
 }

@@ -1,14 +1,15 @@
 -- Laws of the links up to a slot: what one slot more adds, and which is the highest. Assumes nothing.
-use Prim.Native.Nat.{ℕ, zero, suc, ◌-◌, ◌≤◌}
+use Prim.Native.Nat.{ℕ, zero, suc, ◌+◌, ◌-◌, ◌≤◌, ◌<◌}
 use mathlib.Core.Path.{◌≡◌, refl, sym, ap, ◌∙◌}
 use mathlib.Core.List.{List, [], ◌∷◌, ◌++◌, append-nil}
 use native.Mathlib.Omega.{arith}
-use native.Mathlib.Numerals.{one-add, sub-one}
-use lib.ListN.{get_or}
+use native.Mathlib.Numerals.{one-add, add-one}
+use native.Mathlib.Nat.{zero-add, add-zero, add-suc}
+use lib.ListN.{get_or, take}
+use Rattle.std.proofs.lemmas.List.{get_or-take}
 use borrow.Author.Tests.{le-leb}
 use Rattle.definitions.specs.Columns.{at, last_or, slots_from, keep}
 use Rattle.definitions.specs.Arena.{allocated, link_slots}
-use Rattle.definitions.proofs.Columns.{at_place}
 use Rattle.definitions.proofs.Slots.{slots_snoc, keep_append, allocated_yes, allocated_free}
 use Rattle.definitions.proofs.Count.{keep_agree, in_slots}
 use Rattle.definitions.proofs.Relisted.{highest_within}
@@ -40,25 +41,26 @@ unfolding last_or
 last_of_more z x [] = refl
 last_of_more z x (y ∷ xs) = last_of_more y x xs
 
-more_last : (gs : List ℕ) (m : ℕ) → (m ≡ 0 → ⊥) → (at gs m ≡ 0 → ⊥) → m ≡ last_or 0 (link_slots gs m)
-more_last gs zero h g = absurd (h refl)
-more_last gs (suc k) h g = rw (links_more gs k g) (sym (last_of_more 0 (suc k) (link_slots gs k)))
+-- past slot m there is no link
+links_stay : (gs : List ℕ) (m d : ℕ) → ((k : ℕ) → m ≤ k → k < m + d → get_or gs k 0 ≡ 0) → link_slots gs (m + d) ≡ link_slots gs m
+unfolding at
+links_stay gs m zero f = rw add-zero refl
+links_stay gs m (suc d) f = rw add-suc (links_same gs (m + d) (f (m + d) (omega arith) (omega arith)) ∙ links_stay gs m d (λ k h l. f k h (omega arith)))
 
-same_last : (gs : List ℕ) (m : ℕ) → (m ≡ 0 → ⊥) → at gs m ≡ 0 → last_or 0 (link_slots gs (m - 1)) ≡ last_or 0 (link_slots gs m)
-same_last gs zero h g = absurd (h refl)
-same_last gs (suc k) h g = rw (sub-one (suc k), links_same gs k g) refl
+-- the highest link of a stack of n slots: that at the last of the first n places that is not 0, none where all are 0
+module _ (gs : List ℕ) (n : ℕ) where
+  pub highest_found :
+      (i : ℕ) → i < n → (get_or (take n gs) i 0 ≡ 0 → ⊥) → ((k : ℕ) → i < k → k < n → get_or (take n gs) k 0 ≡ 0) → i + 1 ≡ last_or 0 (link_slots gs n)
+  unfolding at
+  highest_found i h g f =
+      let all : suc i + (n - suc i) ≡ n = omega arith in
+      let rest = links_stay gs (suc i) (n - suc i) (λ k l r. let within : k < n = omega arith in sym (get_or-take n gs k 0 within) ∙ f k l within) in
+      let some : get_or gs i 0 ≡ 0 → ⊥ = λ e. g (get_or-take n gs i 0 h ∙ e) in
+      rw add-one (sym (last_of_more 0 (suc i) (link_slots gs i)) ∙ ap (last_or 0) (sym (links_more gs i some) ∙ sym (rw all at rest)))
 
--- the highest link of a stack of n slots, if none is above slot m: it is m, if that is a link, and else below; the code reads slot m at the place m - 1
-module _ (gs : List ℕ) (n m : ℕ) (below : last_or 0 (link_slots gs m) ≡ last_or 0 (link_slots gs n)) where
-  pub highest_here : (m ≡ 0 → ⊥) → (get_or gs (m - 1) 0 ≡ 0 → ⊥) → m ≡ last_or 0 (link_slots gs n)
-  highest_here h g = more_last gs m h (λ z. g (at_place gs m h ∙ z)) ∙ below
-
-  pub highest_below : (m ≡ 0 → ⊥) → get_or gs (m - 1) 0 ≡ 0 → last_or 0 (link_slots gs (m - 1)) ≡ last_or 0 (link_slots gs n)
-  highest_below h g = same_last gs m h (sym (at_place gs m h) ∙ g) ∙ below
-
-  pub highest_none : m ≡ 0 → m ≡ last_or 0 (link_slots gs n)
+  pub highest_none : ((k : ℕ) → k < n → get_or (take n gs) k 0 ≡ 0) → 0 ≡ last_or 0 (link_slots gs n)
   unfolding link_slots slots_from keep last_or
-  highest_none z = rw z refl ∙ below
+  highest_none f = let rest = links_stay gs 0 n (λ k l r. let within : k < n = omega arith in sym (get_or-take n gs k 0 within) ∙ f k within) in ap (last_or 0) (sym (rw zero-add at rest))
 
 -- where a stack ends that has no free end slots
 pub ends_within : (gs : List ℕ) (n m : ℕ) → m ≡ last_or 0 (link_slots gs n) → m ≤ n

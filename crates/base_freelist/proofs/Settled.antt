@@ -1,55 +1,35 @@
 -- Laws of a column whose end is cleared: `settled n ws old` has ws at its front, 0 up to slot n, and the old words after it. Assumes nothing.
-use Prim.Native.Nat.{ℕ, suc, ◌+◌, ◌-◌, ◌≤◌, ◌<◌}
-use mathlib.Core.Path.{◌≡◌, refl, sym, ap, ◌∙◌}
-use mathlib.Core.List.{List, [], ◌∷◌, ◌++◌, append_assoc}
+use Prim.Native.Nat.{ℕ, ◌+◌, ◌-◌, ◌≤◌}
+use mathlib.Core.Path.{◌≡◌, refl}
+use mathlib.Core.List.{List}
 use native.Mathlib.Omega.{arith}
-use native.Mathlib.Numerals.{add-one}
-use lib.ListN.{length, get_or, set, take, drop, replicate, length-append, length-set, length-replicate, replicate-append-replicate, take-append-drop}
-use lib.Seq.{drop-cons, set_at, length-take-le}
+use lib.ListN.{length, take, drop, replicate, length-drop}
+use Rattle.std.proofs.Common.{drop-drop, length-take}
+use lib.Seq.{length-take-le}
+use borrow.Rule.Slice.PartMut.{put_mid}
+use Rattle.std.specs.List.{between}
 use Rattle.definitions.specs.Columns.{settled}
+use Rattle.definitions.specs.Arena.{Arena, arena}
+use Rattle.base_freelist.specs.Popped.{popped, all_popped}
 
--- nothing is cleared yet
-pub settled_none : (old : List ℕ) (m : ℕ) → m ≤ length old → settled m (take m old) old ≡ old
+-- a column whose words past slot m, up to slot n, were filled with 0
+pub filled : (m n : ℕ) (xs ys : List ℕ) → m ≤ n → n ≤ length xs → ys ≡ replicate (length (between m n xs)) 0 → put_mid m (n - m) xs ys ≡ popped m n xs
 unfolding settled
-settled_none old m l =
-    let none : m - length (take m old) ≡ 0 = omega (arith, length-take-le m old l) in
-    rw (none) (take-append-drop m old)
+filled m n xs ys h l e =
+    let front : length (take m xs) ≡ m = length-take-le m xs (omega arith) in
+    let part : length (between m n xs) ≡ n - m = simp (length-take, length-drop) (omega arith) in
+    let rest : m + (n - m) ≡ n = omega arith in
+    rw (e, part, front, drop-drop, rest) refl
 
--- one slot more is cleared
-pub settled_more : (ws old : List ℕ) (i : ℕ) → length ws ≤ i → i < length old → set (settled i ws old) i 0 ≡ settled (i + 1) ws old
-unfolding settled
-settled_more ws old i h l =
-    let front = ws ++ replicate (i - length ws) 0 in
-    let size : length front ≡ i = simp (length-append, length-replicate) (omega arith) in
-    let one : i + 1 - length ws ≡ (i - length ws) + 1 = omega arith in
-    rw (one, ← replicate-append-replicate {A = ℕ} (i - length ws) 1 0, add-one i, drop-cons old i 0 l, ← append_assoc ws (replicate (i - length ws) 0) (get_or old i 0 ∷ drop (suc i) old), set_at front (get_or old i 0) (drop (suc i) old) 0 i size)
-    (append_assoc ws (replicate (i - length ws) 0) (0 ∷ drop (suc i) old) ∙ ap (λ (t : List ℕ). ws ++ t) (sym (append_assoc (replicate (i - length ws) 0) (0 ∷ []) (drop (suc i) old))))
-
--- ---- clearing a column past slot m up to slot n, when all up to slot i is done
-
-pub record Clearing (m n i : ℕ) (old column : List ℕ) : Type 0 where
-  pub from : m ≤ i
-  pub within : i ≤ n
-  pub room : n ≤ length old
-  pub same : column ≡ settled i (take m old) old
-  pub long : length column ≡ length old
-
-pub clearing_starts : (m n : ℕ) (old : List ℕ) → m ≤ n → n ≤ length old → Clearing m n m old old
-clearing_starts m n old h l = record { from = omega arith; within = h; room = l; same = sym (settled_none old m (omega arith)); long = refl }
-
-pub clearing_goes_on : (m n i : ℕ) (old column : List ℕ) → Clearing m n i old column → i < n → Clearing m n (i + 1) old (set column i 0)
-clearing_goes_on m n i old column c h =
-    record {
-      from = omega arith;
-      within = omega arith;
-      room = c.room;
-      same = ap (λ (l : List ℕ). set l i 0) c.same ∙ settled_more (take m old) old i (omega (arith, length-take-le m old (omega arith))) (omega arith);
-      long = length-set column i 0 ∙ c.long;
-    }
-
--- what the loop leaves
-pub cleared : (m n i : ℕ) (old column : List ℕ) → Clearing m n i old column → n ≤ i → column ≡ settled n (take m old) old
-cleared m n i old column c h = let e : i ≡ n = omega arith in rw e at c.same
+-- an arena of which these words of every column were
+pub all_filled :
+    (a : Arena) (m n : ℕ) {ps ns gs vs : List ℕ}
+    → (m ≤ n) × (n ≤ length a.prev) × (n ≤ length a.next) × (n ≤ length a.generation) × (n ≤ length a.payload)
+    → ps ≡ replicate (length (between m n a.prev)) 0 → ns ≡ replicate (length (between m n a.next)) 0
+    → gs ≡ replicate (length (between m n a.generation)) 0 → vs ≡ replicate (length (between m n a.payload)) 0
+    → arena (put_mid m (n - m) a.prev ps) (put_mid m (n - m) a.next ns) (put_mid m (n - m) a.generation gs) (put_mid m (n - m) a.payload vs) a.header ≡ all_popped m n a
+all_filled a m n {ps} {ns} {gs} {vs} r p q g v =
+    rw (filled m n a.prev ps r.0 r.1 p, filled m n a.next ns r.0 r.2 q, filled m n a.generation gs r.0 r.3 g, filled m n a.payload vs r.0 r.4 v) refl
 
 -- only the words past slot n are read of the old column
 pub settled_over : (n : ℕ) (ws old other : List ℕ) → drop n old ≡ drop n other → settled n ws old ≡ settled n ws other

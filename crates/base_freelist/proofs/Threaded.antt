@@ -1,17 +1,18 @@
 -- Laws of a freelist that is listed from its highest slot down: what is listed once the slots above slot i are passed. Assumes nothing.
-use Prim.Native.Nat.{ℕ, zero, suc, ◌-◌, ◌≤◌, ◌<◌}
-use mathlib.Core.Path.{◌≡◌, refl, sym, ap, ◌∙◌}
-use mathlib.Core.Bool.{not}
+use Prim.Native.Nat.{ℕ, zero, suc, ◌+◌, ◌-◌, ◌≤◌, ◌<◌}
+use mathlib.Core.Path.{◌≡◌, refl, ap, ◌∙◌}
+use mathlib.Core.Bool.{not, cond}
 use mathlib.Core.List.{List, [], ◌∷◌}
 use native.Mathlib.Omega.{arith}
 use native.Mathlib.Nat.{sub_self, sub-zero}
-use native.Mathlib.Numerals.{sub-one}
-use lib.ListN.{length, get_or, set, drop}
+use native.Mathlib.Numerals.{add-one}
+use lib.Dec.{eqb}
+use lib.ListN.{get_or, set, drop}
 use lib.Seq.{set_comm, drop-set-lt}
+use borrow.Author.Tests.{ne_eqb}
 use Rattle.definitions.specs.Columns.{at, put, first_or, slots_from, keep}
 use Rattle.definitions.specs.Arena.{allocated, free_slots}
 use Rattle.definitions.specs.Remove.{threaded}
-use Rattle.definitions.proofs.Columns.{at_place, put_place, length_put}
 use Rattle.definitions.proofs.Slots.{allocated_yes, allocated_free}
 use Rattle.definitions.proofs.Count.{In, in_here, in_there, in_slots, in_keep}
 
@@ -77,73 +78,57 @@ pub in_free : (gs : List ℕ) (m x : ℕ) → In x (free_slots gs m) → x ≤ m
 unfolding free_slots
 in_free gs m x h = let run = in_slots x 1 m (in_keep _ x _ h).1 in omega arith
 
--- the first of a list without 0: none, or the same for every other word that stands for none
-first_none : (z : ℕ) (fs : List ℕ) → (In 0 fs → ⊥) → first_or 0 fs ≡ 0 → first_or z fs ≡ z
+-- the first of a list without 0, or z where there is none
+first_chosen : (z : ℕ) (fs : List ℕ) → (In 0 fs → ⊥) → cond (eqb (first_or 0 fs) 0) z (first_or 0 fs) ≡ first_or z fs
 unfolding first_or
-first_none z [] out e = refl
-first_none z (x ∷ fs) out e = absurd (out (rw (← e) (in_here x fs)))
+first_chosen z [] out = refl
+first_chosen z (x ∷ fs) out = rw (ne_eqb x 0 (λ e. out (rw (← e) (in_here x fs)))) refl
 
-first_some : (z : ℕ) (fs : List ℕ) → (first_or 0 fs ≡ 0 → ⊥) → first_or z fs ≡ first_or 0 fs
-unfolding first_or
-first_some z [] e = absurd (e refl)
-first_some z (x ∷ fs) e = refl
+-- ---- listing the free slots of a stack of m slots, when those above slot i are listed and root is the first of them
 
--- ---- listing the free slots of a stack of m slots, when those above slot i are listed
-
-pub record Relisting (gs old : List ℕ) (m i : ℕ) (ns : List ℕ) (earliest : ℕ) : Type 0 where
+pub record Relisting (gs old : List ℕ) (m i : ℕ) (ns : List ℕ) (root : ℕ) : Type 0 where
   pub within : i ≤ m
-  pub small : earliest ≤ m
-  pub first : earliest ≡ first_or 0 (free_above gs m i)
+  pub first : root ≡ first_or 0 (free_above gs m i)
   pub threads : ns ≡ threaded old (free_above gs m i)
-  pub long : length ns ≡ length old
 
 module _ (gs old : List ℕ) (m : ℕ) where
   pub relisting_starts : Relisting gs old m m old 0
   unfolding first_or threaded
-  relisting_starts = record { within = omega arith; small = omega arith; first = rw (none_above gs m) refl; threads = rw (none_above gs m) refl; long = refl }
+  relisting_starts = record { within = omega arith; first = rw (none_above gs m) refl; threads = rw (none_above gs m) refl }
 
-  passed : (i : ℕ) (ns : List ℕ) (earliest : ℕ) → Relisting gs old m i ns earliest → (i ≡ 0 → ⊥) → (at gs i ≡ 0 → ⊥) → Relisting gs old m (i - 1) ns earliest
-  passed zero ns earliest r d g = absurd (d refl)
-  passed (suc k) ns earliest r d g =
+  passed : (k : ℕ) (ns : List ℕ) (root : ℕ) → Relisting gs old m (suc k) ns root → (get_or gs k 0 ≡ 0 → ⊥) → Relisting gs old m k ns root
+  unfolding at
+  passed k ns root r g =
       let e = free_same gs m k r.within g in
-      rw (sub-one (suc k)) (record { within = omega arith; small = r.small; first = rw e r.first; threads = rw e r.threads; long = r.long })
+      record { within = omega arith; first = rw e r.first; threads = rw e r.threads }
 
-  listed : (i : ℕ) (ns : List ℕ) (earliest v : ℕ) → Relisting gs old m i ns earliest → (i ≡ 0 → ⊥) → at gs i ≡ 0 → v ≡ first_or i (free_above gs m i) → Relisting gs old m (i - 1) (put ns i v) i
-  unfolding first_or threaded
-  listed zero ns earliest v r d g q = absurd (d refl)
-  listed (suc k) ns earliest v r d g q =
+  listed : (k : ℕ) (ns : List ℕ) (root v : ℕ) → Relisting gs old m (suc k) ns root → get_or gs k 0 ≡ 0 → v ≡ cond (eqb root 0) (suc k) root → Relisting gs old m k (set ns k v) (suc k)
+  unfolding at put first_or threaded
+  listed k ns root v r g q =
       let e = free_more gs m k r.within g in
-      let apart : In (suc k) (free_above gs m (suc k)) → ⊥ = λ i. let above = in_free_above gs m (suc k) (suc k) i in omega arith in
-      rw (sub-one (suc k))
-      (record {
+      let above : (s : ℕ) → s ≤ suc k → In s (free_above gs m (suc k)) → ⊥ = λ s h i. let past = in_free_above gs m (suc k) s i in omega arith in
+      let word : v ≡ first_or (suc k) (free_above gs m (suc k)) = q ∙ rw r.first (first_chosen (suc k) _ (above 0 (omega arith))) in
+      record {
         within = omega arith;
-        small = r.within;
         first = rw e refl;
-        threads = rw (e, threaded_put old (free_above gs m (suc k)) (suc k) (first_or (suc k) (free_above gs m (suc k))) apart, ← r.threads, ← q) refl;
-        long = length_put ns (suc k) v ∙ r.long;
-      })
+        threads = rw (e, threaded_put old (free_above gs m (suc k)) (suc k) (first_or (suc k) (free_above gs m (suc k))) (above (suc k) (omega arith)), ← r.threads, ← word) refl;
+      }
 
--- slot i, which the code reads and writes at the place i - 1
-module _ {gs old : List ℕ} {m i : ℕ} {ns : List ℕ} {earliest : ℕ} (r : Relisting gs old m i ns earliest) (some : i ≡ 0 → ⊥) where
-  -- is a link
-  pub relisting_passes : (get_or gs (i - 1) 0 ≡ 0 → ⊥) → Relisting gs old m (i - 1) ns earliest
-  relisting_passes g = passed gs old m i ns earliest r some (λ z. g (at_place gs i some ∙ z))
+-- slot i, which the code reads and writes at the place i - 1, is a link, or is free and leads on to the root so far, to itself where there is none
+module _ {gs old : List ℕ} {m i : ℕ} {ns : List ℕ} {root : ℕ} (r : Relisting gs old m i ns root) (some : 0 < i) where
+  -- the place and the slot after it
+  here : Relisting gs old m (suc (i - 1)) ns root
+  here = let e : i ≡ suc (i - 1) = omega arith in rw e at r
 
-  lists : (v : ℕ) → get_or gs (i - 1) 0 ≡ 0 → v ≡ first_or i (free_above gs m i) → Relisting gs old m (i - 1) (set ns (i - 1) v) i
-  lists v g q = rw (put_place ns i v some) (listed gs old m i ns earliest v r some (sym (at_place gs i some) ∙ g) q)
+  pub relisting_passes : (get_or gs (i - 1) 0 ≡ 0 → ⊥) → Relisting gs old m (i - 1) ns root
+  relisting_passes g = passed gs old m (i - 1) ns root here g
 
-  -- is the first free slot that is met, and points at itself
-  pub relisting_first : get_or gs (i - 1) 0 ≡ 0 → earliest ≡ 0 → Relisting gs old m (i - 1) (set ns (i - 1) i) i
-  relisting_first g e =
-      lists i g (sym (first_none i (free_above gs m i) (λ z. let above = in_free_above gs m i 0 z in omega arith) (sym r.first ∙ e)))
-
-  -- is free, and points at the earliest so far
-  pub relisting_next : get_or gs (i - 1) 0 ≡ 0 → (earliest ≡ 0 → ⊥) → Relisting gs old m (i - 1) (set ns (i - 1) earliest) i
-  relisting_next g d = lists earliest g (r.first ∙ sym (first_some i (free_above gs m i) (λ z. d (r.first ∙ z))))
+  pub relisting_lists : {f : ℕ} → get_or gs (i - 1) 0 ≡ 0 → f ≡ cond (eqb root 0) (i - 1 + 1) root → Relisting gs old m (i - 1) (set ns (i - 1) f) (i - 1 + 1)
+  relisting_lists {f} g q = rw add-one (listed gs old m (i - 1) ns root f here g (rw add-one at q))
 
 pub relisted :
-    {gs old : List ℕ} {m i : ℕ} {ns : List ℕ} {earliest : ℕ}
-    → Relisting gs old m i ns earliest → i ≡ 0 → (earliest ≡ first_or 0 (free_slots gs m)) × (ns ≡ threaded old (free_slots gs m))
+    {gs old : List ℕ} {m i : ℕ} {ns : List ℕ} {root : ℕ}
+    → Relisting gs old m i ns root → i ≤ 0 → (root ≡ first_or 0 (free_slots gs m)) × (ns ≡ threaded old (free_slots gs m))
 relisted {gs} {m = m} {i = i} r z =
-    let e : free_above gs m i ≡ free_slots gs m = rw z (all_above gs m) in
+    let e : free_above gs m i ≡ free_slots gs m = let none : i ≡ 0 = omega arith in rw none (all_above gs m) in
     (rw (← e) r.first, rw (← e) r.threads)

@@ -1,9 +1,11 @@
--- The numbers of this crate's answers (REFERENCE, Numbers).
-use Rattle.std.specs.Prelude.{ℕ}
-use Rattle.base_freelist.specs.declared.GenerationSet.{GenerationSet}
-use Rattle.base_freelist.specs.declared.GenerationSet.TheVariants.{Done, BelowTwo}
+-- The reply of a call that sets the generation (REFERENCE, Replies).
+use Rattle.std.specs.Prelude.{[], Result, Ok, Err}
+use Rattle.definitions.specs.Arena.{Arena}
+use Rattle.definitions.specs.Reply.{Reply, reply}
+use Rattle.refusals.specs.Refusal.{refused}
+use Rattle.refusals.specs.declared.Refusal.{Refusal}
 
--- 0 where the generation was set, 15 where it was to be 0 or 1 (REFERENCE, Generation)
-abbrev pub generation_set_number : GenerationSet → ℕ
-generation_set_number Done = 0
-generation_set_number BelowTwo = 15
+-- done or refused, it has no further field and hands nothing back; a is the arena left
+abbrev pub set_reply : Result (Unit {0}) Refusal → Arena → Reply
+set_reply (Ok done) a = reply 0 [] a []
+set_reply (Err r) a = refused r 0 a []

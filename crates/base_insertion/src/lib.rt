@@ -5,10 +5,12 @@ ghost use Rattle.std.specs.Prelude.{◌≡◌, cond, List, ℕ, ◌+◌, ◌≤�
 ghost use Rattle.definitions.specs.Columns.{at, put};
 ghost use Rattle.definitions.specs.Arena.{arena, capacity_limit, header_words};
 ghost use Rattle.definitions.specs.Insert.{header_after, inserted};
+ghost use Rattle.lent.specs.Arenas.{held_in, SameBuffers};
 ghost use Rattle.base_insertion.specs.Insertion.{Roomy, Countable, Insertable, slot_for};
 
 use columns::{put_at, set_at, slot_at};
 use header::{CURRENT_GENERATION, LINK_COUNT, ROOT, STACK_LENGTH};
+use lent::ArenaMut;
 use ptr::Slot;
 
 // The slot of a new link: the root, or the slot after the stack where there is no root; 0 where there is neither.
@@ -17,10 +19,10 @@ pub fn new_slot(header: &[u32], capacity: usize) -> Slot
     ensures { result.0 ≡ slot_for header.now capacity }
 {
     let root = header[ROOT];
+    let n = header[STACK_LENGTH];
     if root != 0 {
         return Slot(root);
     }
-    let n = header[STACK_LENGTH];
     if n as usize == capacity {
         return Slot(0);
     }
@@ -33,25 +35,21 @@ pub fn root_after(next: &[u32], root: Slot) -> Slot
     ensures { result.0 ≡ cond (eqb (at next.now root.0) root.0) 0 (at next.now root.0) }
 {
     let f = slot_at(next, root);
-    if f.0 == root.0 {
-        return Slot(0);
-    }
-    f
+    if f == root { Slot(0) } else { f }
 }
 
 // Counts a new link in the header, and takes the root or, where there is none, the slot after the stack.
+#[tactic(auto, unfolding(definitions::specs::Insert::header_after, definitions::specs::Insert::root_after))]
 pub fn count_insertion(next: &[u32], header: &mut [u32])
     requires { Countable next.now header.old }
     ensures { (ps gs vs : List ℕ) → header.new ≡ header_after (arena ps next.now gs vs header.old) }
 {
-    let links = header[LINK_COUNT];
-    let root = header[ROOT];
-    let n = header[STACK_LENGTH];
-    header[LINK_COUNT] = links + 1;
-    if root == 0 {
-        header[STACK_LENGTH] = n + 1;
+    let root = Slot(header[ROOT]);
+    header[LINK_COUNT] += 1;
+    if root.0 == 0 {
+        header[STACK_LENGTH] += 1;
     } else {
-        header[ROOT] = root_after(next, Slot(root)).0;
+        header[ROOT] = root_after(next, root).0;
     }
 }
 
@@ -60,31 +58,22 @@ pub fn put_in(column: &mut [u32], t: Slot, u: Slot, v: Slot)
     requires { (0 < t.0) × (t.0 ≤ length column.old) × (v.0 ≤ length column.old) }
     ensures { column.new ≡ put (put column.old t.0 u.0) v.0 t.0 }
 {
-    set_at(&mut *column, t, u);
+    set_at(column, t, u);
     put_at(column, v, t);
 }
 
 // A link of payload x in slot t, between the slots u and v; 0 where there is none.
-pub fn insert_between(
-    prev: &mut [u32],
-    next: &mut [u32],
-    generation: &mut [u32],
-    payload: &mut [u32],
-    header: &mut [u32],
-    t: Slot,
-    u: Slot,
-    v: Slot,
-    x: u32,
-)
-    requires { Insertable (arena prev.old next.old generation.old payload.old header.old) t.0 u.0 v.0 }
-    ensures { arena prev.new next.new generation.new payload.new header.new
-        ≡ inserted (arena prev.old next.old generation.old payload.old header.old) u.0 v.0 x }
+pub fn insert_between(arena: &mut ArenaMut<'_>, t: Slot, u: Slot, v: Slot, x: u32)
+    requires { Insertable (held_in arena.old) t.0 u.0 v.0 }
+    ensures inserted { held_in arena.new ≡ inserted (held_in arena.old) u.0 v.0 x }
+    ensures lent { SameBuffers arena.old arena.new }
 {
-    let g = header[CURRENT_GENERATION];
+    let g = arena.header[CURRENT_GENERATION];
     let i = t.0 as usize - 1;
-    count_insertion(&*next, header);
-    put_in(prev, t, u, v);
+    let next = &mut *arena.next;
+    count_insertion(&*next, arena.header);
     put_in(next, t, v, u);
-    generation[i] = g;
-    payload[i] = x;
+    put_in(arena.prev, t, u, v);
+    arena.generation[i] = g;
+    arena.payload[i] = x;
 }

@@ -2,35 +2,28 @@
 #![tactic(auto)]
 
 ghost use Rattle.std.specs.Prelude.{◌-◌};
-ghost use Rattle.definitions.specs.Arena.{largest_generation, arena};
+ghost use Rattle.definitions.specs.Arena.{largest_generation};
+ghost use Rattle.lent.specs.Arenas.{held_in, SameBuffers};
 ghost use Rattle.base_slots.specs.Removal.{Removable, TakenOut};
 
 use base_slots::{count_removal, free, join, pop};
 use header::STACK_LENGTH;
+use lent::ArenaMut;
 use ptr::Slot;
 
 // Takes slot s out of its chain and out of use, and raises the generation. Answers whether that overflowed.
-pub fn take_out(
-    prev: &mut [u32],
-    next: &mut [u32],
-    generation: &mut [u32],
-    payload: &mut [u32],
-    header: &mut [u32],
-    s: Slot,
-) -> bool
-    requires { Removable (arena prev.old next.old generation.old payload.old header.old) s.0 }
-    ensures { TakenOut largest_generation
-        (arena prev.old next.old generation.old payload.old header.old) s.0
-        (arena prev.new next.new generation.new payload.new header.new) result }
+pub fn take_out(arena: &mut ArenaMut<'_>, s: Slot) -> bool
+    requires { Removable (held_in arena.old) s.0 }
+    ensures taken_out { TakenOut largest_generation (held_in arena.old) s.0 (held_in arena.new) result }
+    ensures lent { SameBuffers arena.old arena.new }
 {
-    let n = header[STACK_LENGTH];
-    let last = s.0;
-    join(&mut *prev, &mut *next, s);
-    let overflow = count_removal(&mut *header);
-    if last == n {
-        pop(prev, next, generation, payload, header, s);
+    let n = arena.header[STACK_LENGTH];
+    join(arena.prev, arena.next, s);
+    let overflow = count_removal(arena.header);
+    if s.0 == n {
+        pop(arena, s);
     } else {
-        free(prev, next, generation, payload, header, s);
+        free(arena, s);
     }
     overflow
 }

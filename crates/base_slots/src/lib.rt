@@ -4,101 +4,74 @@
 ghost use Rattle.std.specs.Prelude.{◌≡◌, cond, List, ℕ, ◌-◌, ◌≤◌, ◌<◌, eqb, length, get_or};
 ghost use Rattle.definitions.specs.Arena.{arena, largest_generation, header_words, with_stack_length, with_root};
 ghost use Rattle.definitions.specs.Remove.{joined, vacated};
+ghost use Rattle.lent.specs.Arenas.{held_in, SameBuffers};
 ghost use Rattle.base_slots.specs.Removal.{Joinable, Stands, Counted};
 
-use columns::put_at;
-use header::{CURRENT_GENERATION, LINK_COUNT, ROOT, STACK_LENGTH};
-use ptr::{Gen, Slot};
+use base_freelist::{freelist_pointer, raise_generation};
+use columns::{put_at, slot_at};
+use header::{LINK_COUNT, ROOT, STACK_LENGTH};
+use lent::ArenaMut;
+use ptr::Slot;
 
 // Joins the neighbours of slot s: they name each other.
+#[tactic(auto, unfolding(definitions::specs::Remove::joined))]
 pub fn join(prev: &mut [u32], next: &mut [u32], s: Slot)
     requires { Joinable prev.old next.old s.0 }
     ensures { (gs vs h : List ℕ) → arena prev.new next.new gs vs h ≡ joined (arena prev.old next.old gs vs h) s.0 }
 {
-    let i = s.0 as usize - 1;
-    let before = Slot(prev[i]);
-    let after = Slot(next[i]);
-    put_at(&mut *next, before, after);
-    put_at(&mut *prev, after, before);
+    let before = slot_at(prev, s);
+    let after = slot_at(next, s);
+    put_at(next, before, after);
+    put_at(prev, after, before);
 }
 
 // Empties slot s: its next gets the freelist pointer f, 0 for a popped slot, and its other words 0.
-pub fn vacate(
-    prev: &mut [u32],
-    next: &mut [u32],
-    generation: &mut [u32],
-    payload: &mut [u32],
-    s: Slot,
-    f: Slot,
-)
-    requires { Stands prev.old next.old generation.old payload.old s.0 }
-    ensures { (old h : List ℕ) → arena prev.new next.new generation.new payload.new h
-        ≡ vacated (arena prev.old next.old generation.old payload.old old) s.0 f.0 h }
+#[tactic(auto, using(definitions::proofs::Columns::put_place), unfolding(definitions::specs::Remove::vacated))]
+pub fn vacate(arena: &mut ArenaMut<'_>, s: Slot, f: Slot)
+    requires { Stands arena.old.prev.now arena.old.next.now arena.old.generation.now arena.old.payload.now s.0 }
+    ensures vacated { held_in arena.new ≡ vacated (held_in arena.old) s.0 f.0 arena.old.header.now }
+    ensures lent { SameBuffers arena.old arena.new }
 {
     let i = s.0 as usize - 1;
-    prev[i] = 0;
-    next[i] = f.0;
-    generation[i] = 0;
-    payload[i] = 0;
+    arena.prev[i] = 0;
+    arena.next[i] = f.0;
+    arena.generation[i] = 0;
+    arena.payload[i] = 0;
 }
 
 // Counts a removal in the header: one link fewer, in the next generation. Answers whether the generation overflowed.
+#[tactic(auto, unfolding(crate::specs::Removal::fewer))]
 pub fn count_removal(header: &mut [u32]) -> bool
     requires { (length header.old ≡ header_words) × (0 < get_or header.old 1 0) }
     ensures { Counted largest_generation header.old header.new result }
 {
-    let raised = Gen(header[CURRENT_GENERATION]).generational_inc();
-    let links = header[LINK_COUNT];
-    header[CURRENT_GENERATION] = raised.generation.0;
-    header[LINK_COUNT] = links - 1;
-    raised.overflow
+    let overflow = raise_generation(header);
+    header[LINK_COUNT] -= 1;
+    overflow
 }
 
 // Pops slot s, the last of the stack. The freelist stays as it is.
-pub fn pop(
-    prev: &mut [u32],
-    next: &mut [u32],
-    generation: &mut [u32],
-    payload: &mut [u32],
-    header: &mut [u32],
-    s: Slot,
-)
-    requires stands { Stands prev.old next.old generation.old payload.old s.0 }
-    requires header_len { (length header.old ≡ header_words) × (s.0 ≡ get_or header.old 0 0) }
-    ensures { arena prev.new next.new generation.new payload.new header.new
-        ≡ vacated (arena prev.old next.old generation.old payload.old header.old) s.0 0
-        (with_stack_length (s.0 - 1) header.old) }
+#[tactic(auto, unfolding(definitions::specs::Remove::vacated))]
+pub fn pop(arena: &mut ArenaMut<'_>, s: Slot)
+    requires stands { Stands arena.old.prev.now arena.old.next.now arena.old.generation.now arena.old.payload.now s.0 }
+    requires header_len { (length arena.old.header.now ≡ header_words) × (s.0 ≡ get_or arena.old.header.now 0 0) }
+    ensures popped { held_in arena.new ≡ vacated (held_in arena.old) s.0 0 (with_stack_length (s.0 - 1) arena.old.header.now) }
+    ensures lent { SameBuffers arena.old arena.new }
 {
-    vacate(prev, next, generation, payload, s, Slot(0));
-    header[STACK_LENGTH] = s.0 - 1;
-}
-
-// Where the freelist goes on from a slot s that is freed: at the root that was, or at s itself where none was.
-pub fn freelist_pointer(root: u32, s: Slot) -> Slot
-    ensures { result.0 ≡ cond (eqb root 0) s.0 root }
-{
-    if root == 0 {
-        return s;
-    }
-    Slot(root)
+    arena.header[STACK_LENGTH] = s.0 - 1;
+    vacate(arena, s, Slot(0));
 }
 
 // Frees slot s: it becomes the root, and the freelist goes on from it as `freelist_pointer` says.
-pub fn free(
-    prev: &mut [u32],
-    next: &mut [u32],
-    generation: &mut [u32],
-    payload: &mut [u32],
-    header: &mut [u32],
-    s: Slot,
-)
-    requires stands { Stands prev.old next.old generation.old payload.old s.0 }
-    requires header_len { length header.old ≡ header_words }
-    ensures { arena prev.new next.new generation.new payload.new header.new
-        ≡ vacated (arena prev.old next.old generation.old payload.old header.old) s.0
-        (cond (eqb (get_or header.old 2 0) 0) s.0 (get_or header.old 2 0)) (with_root s.0 header.old) }
+#[tactic(auto, unfolding(definitions::specs::Remove::vacated))]
+pub fn free(arena: &mut ArenaMut<'_>, s: Slot)
+    requires stands { Stands arena.old.prev.now arena.old.next.now arena.old.generation.now arena.old.payload.now s.0 }
+    requires header_len { length arena.old.header.now ≡ header_words }
+    ensures freed { held_in arena.new
+        ≡ vacated (held_in arena.old) s.0 (cond (eqb (get_or arena.old.header.now 2 0) 0) s.0 (get_or arena.old.header.now 2 0)) (with_root s.0 arena.old.header.now) }
+    ensures lent { SameBuffers arena.old arena.new }
 {
-    let f = freelist_pointer(header[ROOT], s);
-    vacate(prev, next, generation, payload, s, f);
-    header[ROOT] = s.0;
+    let f = freelist_pointer(Slot(arena.header[ROOT]), s);
+    arena.header[ROOT] = s.0;
+    vacate(arena, s, f);
 }

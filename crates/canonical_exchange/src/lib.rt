@@ -1,16 +1,25 @@
 // The exchange of two slots in canonical compression: a link and what is where it goes change places, and both are renamed where their neighbours name them.
 #![tactic(auto)]
 
-ghost use Rattle.std.specs.Prelude.{◌≡◌, ◌≤◌, length};
+ghost use Rattle.std.specs.Prelude.{◌≡◌, ◌≤◌, ◌<◌, length};
 ghost use Rattle.definitions.specs.Columns.{put};
 ghost use Rattle.definitions.specs.Compress.{exchange_words};
-ghost use Rattle.canonical_exchange.specs.Lent.{columns, lent};
+ghost use Rattle.canonical_exchange.specs.Layout.{columns_of, SameColumns};
 ghost use Rattle.canonical_exchange.specs.Exchange.{Inside, NamedIn, LinksInReach, InReach, renamed_words, Exchanged};
 
-use columns::{put_at, slot_at};
+use columns::{put_at, slot_at, word_at};
 use ptr::Slot;
 
-// What two slots that are exchanged name in a column of neighbours: the link that is moved, and who is where it goes, nothing if nobody is.
+// The columns that are written while an arena is laid out: its links and payloads, and beside them the where-from column, which says who is in a slot.
+#[derive(Drop)]
+pub struct Layout<'a> {
+    pub prev: &'a mut [u32],
+    pub next: &'a mut [u32],
+    pub payload: &'a mut [u32],
+    pub where_from: &'a mut [u32],
+}
+
+// What two slots that are exchanged name in a column of neighbours, as its words: the link that is moved, and who is where it goes. Slot 0 names none.
 #[derive(Clone, Copy)]
 pub struct Named {
     pub moved: Slot,
@@ -24,27 +33,21 @@ pub fn trade_words(column: &mut [u32], i: Slot, t: Slot)
 {
     let a = i.0 as usize - 1;
     let b = t.0 as usize - 1;
-    let kept = column[a];
-    column[a] = column[b];
-    column[b] = kept;
+    (column[a], column[b]) = (column[b], column[a]);
 }
 
-// What the link in slot t names in a column of neighbours, and what who is in slot i names.
+// What the link in slot t names in a column of neighbours, and what who is in slot i names, none if nobody is there.
 pub fn read_named(column: &[u32], where_from: &[u32], i: Slot, t: Slot) -> Named
     requires { Inside column.now i.0 t.0 × Inside where_from.now i.0 t.0 }
     ensures { NamedIn column.now where_from.now i.0 t.0 result }
 {
     let moved = slot_at(column, t);
-    if slot_at(where_from, i).0 == 0 {
-        return Named {
-            moved: moved,
-            other: Slot(0),
-        };
-    }
-    Named {
-        moved: moved,
-        other: slot_at(column, i),
-    }
+    let other = if word_at(where_from, i) == 0 {
+        Slot(0)
+    } else {
+        slot_at(column, i)
+    };
+    Named { moved, other }
 }
 
 // In one column of neighbours: the words of those whom the two name get the new slots, i and t, then the two slots are exchanged.
@@ -54,36 +57,43 @@ pub fn settle(column: &mut [u32], named: Named, i: Slot, t: Slot)
 {
     put_at(&mut *column, named.moved, i);
     put_at(&mut *column, named.other, t);
-    trade_words(&mut *column, i, t);
+    trade_words(column, i, t);
 }
 
-// In both columns of neighbours: the link in slot t and who is in slot i are renamed where their neighbours name them, and exchanged. What both name is read before
-// a word is written, since the two may be neighbours of each other.
-pub fn exchange_links(prev: &mut [u32], next: &mut [u32], where_from: &[u32], i: Slot, t: Slot)
-    requires { LinksInReach prev.old next.old where_from.now i.0 t.0 }
-    ensures { (prev.new ≡ renamed_words prev.old next.old where_from.now i.0 t.0)
-        × (next.new ≡ renamed_words next.old prev.old where_from.now i.0 t.0) }
-{
-    let after = read_named(&*next, where_from, i, t);
-    let before = read_named(&*prev, where_from, i, t);
-    settle(&mut *prev, after, i, t);
-    settle(&mut *next, before, i, t);
-}
+impl Layout<'_> {
+    // What the link in slot t and who is in slot i name, in the prev column and in the next column.
+    fn named(&self, i: Slot, t: Slot) -> (Named, Named)
+        requires { Inside self.now.prev.now i.0 t.0 × Inside self.now.next.now i.0 t.0 × Inside self.now.where_from.now i.0 t.0 }
+        ensures { NamedIn self.now.prev.now self.now.where_from.now i.0 t.0 result.0
+            × NamedIn self.now.next.now self.now.where_from.now i.0 t.0 result.1 }
+    {
+        let before = read_named(&*self.prev, &*self.where_from, i, t);
+        let after = read_named(&*self.next, &*self.where_from, i, t);
+        (before, after)
+    }
 
-// Exchanges the link in slot t with what is in slot i.
-pub fn exchange(
-    prev: &mut [u32],
-    next: &mut [u32],
-    payload: &mut [u32],
-    where_from: &mut [u32],
-    i: Slot,
-    t: Slot,
-)
-    requires { InReach (lent prev.old next.old payload.old where_from.old) i.0 t.0 }
-    ensures { Exchanged (lent prev.old next.old payload.old where_from.old)
-        (lent prev.new next.new payload.new where_from.new) i.0 t.0 }
-{
-    exchange_links(prev, next, &*where_from, i, t);
-    trade_words(where_from, i, t);
-    trade_words(payload, i, t);
+    // In both columns of neighbours: the link in slot t and who is in slot i are renamed where their neighbours name them, and exchanged. What both name is read
+    // before a word is written, since the two may be neighbours of each other.
+    pub fn exchange_links(&mut self, i: Slot, t: Slot)
+        requires { LinksInReach self.old.prev.now self.old.next.now self.old.where_from.now i.0 t.0 }
+        ensures renamed { (self.new.prev.now ≡ renamed_words self.old.prev.now self.old.next.now self.old.where_from.now i.0 t.0)
+            × (self.new.next.now ≡ renamed_words self.old.next.now self.old.prev.now self.old.where_from.now i.0 t.0) }
+        ensures others { (self.new.payload.now ≡ self.old.payload.now) × (self.new.where_from.now ≡ self.old.where_from.now) }
+        ensures lent { SameColumns self.old self.new }
+    {
+        let (before, after) = self.named(i, t);
+        settle(&mut *self.prev, after, i, t);
+        settle(&mut *self.next, before, i, t);
+    }
+
+    // Exchanges the link in slot t with what is in slot i.
+    pub fn exchange(&mut self, i: Slot, t: Slot)
+        requires { InReach (columns_of self.old) i.0 t.0 }
+        ensures exchanged { Exchanged (columns_of self.old) (columns_of self.new) i.0 t.0 }
+        ensures lent { SameColumns self.old self.new }
+    {
+        self.exchange_links(i, t);
+        trade_words(&mut *self.where_from, i, t);
+        trade_words(&mut *self.payload, i, t);
+    }
 }

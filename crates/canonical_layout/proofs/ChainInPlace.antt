@@ -2,12 +2,12 @@
 use Prim.Native.Nat.{ℕ, suc, ◌+◌, ◌-◌, ◌≤◌, ◌<◌}
 use mathlib.Core.Path.{◌≡◌, refl, sym, ap, ◌∙◌}
 use mathlib.Core.Logic.{◌≢◌, ◌⊎◌, inl, inr}
-use mathlib.Core.Bool.{true, false, ◌||◌, true≢false}
+use mathlib.Core.Bool.{Bool, true, false, ◌||◌, true≢false}
 use native.Mathlib.Omega.{arith}
 use native.Mathlib.Numerals.{add-one}
 use lib.ListN.{length}
 use lib.Dec.{eqb}
-use borrow.Author.Tests.{eq-eqb, ne_eqb}
+use borrow.Author.Tests.{eq-eqb, ne_eqb, eqb-true, eqb-false}
 use Rattle.definitions.specs.Arena.{Arena, capacity_limit, stack_length}
 use Rattle.definitions.specs.Compress.{Laying, put_at_i, lay_chain}
 use Rattle.definitions.proofs.Tests.{the_first, the_second, neither}
@@ -115,30 +115,41 @@ module _ {old : Lent} {laid start : ℕ} {c : Lent} {count t : ℕ} (going : Goi
     pub going_chain : (a : Arena) × (l : Laying) × (first : ℕ) × InChain a l first t c count
     going_chain = (ready.0, way.state, ready.1.i, way.chain)
 
-    pub going_below : (count < length c.where_from) × (count + 1 ≤ capacity_limit)
+    pub going_below : (count < length old.where_from) × (count + 1 ≤ capacity_limit)
     going_below =
         let place = place_left way.chain in
         let n = same_stack ready.0 way.state.slots way.state.from way.chain.within.state.carried in
-        (omega (arith, place, way.chain.held.from_long), omega (arith, place, n, way.chain.layable.small))
+        let m = same_stack ready.0 ready.1.slots ready.1.from ready.2.within.state.carried in
+        (omega (arith, place, n, m, ready.2.held.from_long), omega (arith, place, n, way.chain.layable.small))
 
-  module _ {left : Lent} {ahead first : ℕ} (is : first ≡ laid + 1) (put : (a : Arena) (l : Laying) (first : ℕ) → InChain a l first t c count → LinkLaid l t left ahead) where
-    at_first : (l : Laying) → l.i ≡ suc laid → first ≡ l.i
-    at_first l e = is ∙ (add-one laid ∙ sym e)
+  -- one link more is put, and the code asks whether there is none ahead of it, and whether that is the slot where the first one is now
+  module _ {left : Lent} {ahead : ℕ} (put : (a : Arena) (l : Laying) (first : ℕ) → InChain a l first t c count → LinkLaid l t left ahead) {none : Bool} (asks : none ≡ eqb ahead 0) where
+    place_first : (l : Laying) → l.i ≡ suc laid → laid + 1 ≡ l.i
+    place_first l e = add-one laid ∙ sym e
 
-    pub going_on : ahead ≢ 0 → ahead ≢ first → Going old laid start left (count + 1) ahead
-    going_on d e =
-        record {
-          begun = omega (arith, going.begun);
-          on_the_way = λ a l chain.
-              let way = going.on_the_way a l chain in
-              turn_goes_on a l start c count t way left ahead (put a way.state l.i way.chain) d (λ q. e (q ∙ sym (at_first l chain.i)));
-        }
-
-    pub going_over : (ahead ≡ 0) ⊎ (ahead ≡ first) → (a : Arena) (l : Laying) → InChain a l l.i start old laid → ChainLaid a l (lay_chain (stack_length l.slots) l.i start l) laid left (count + 1)
-    going_over e a l chain =
+    chain_over : (ahead ≡ 0) ⊎ (ahead ≡ laid + 1) → (a : Arena) (l : Laying) → InChain a l l.i start old laid → ChainLaid a l (lay_chain (stack_length l.slots) l.i start l) laid left (count + 1)
+    chain_over e a l chain =
         let way = going.on_the_way a l chain in
         turn_ends a l start c count t way left ahead (put a way.state l.i way.chain) (ended e) laid going.begun
       where
-        ended : (ahead ≡ 0) ⊎ (ahead ≡ first) → (ahead ≡ 0) ⊎ (ahead ≡ l.i)
+        ended : (ahead ≡ 0) ⊎ (ahead ≡ laid + 1) → (ahead ≡ 0) ⊎ (ahead ≡ l.i)
         ended (inl z) = inl z
-        ended (inr z) = inr (z ∙ at_first l chain.i)
+        ended (inr z) = inr (z ∙ place_first l chain.i)
+
+    pub going_ends : none ≡ true → (a : Arena) (l : Laying) → InChain a l l.i start old laid → ChainLaid a l (lay_chain (stack_length l.slots) l.i start l) laid left (count + 1)
+    going_ends e = chain_over (inl (eqb-true _ _ (sym asks ∙ e)))
+
+    module _ (some : none ≡ false) {round : Bool} (asks_again : round ≡ eqb ahead (laid + 1)) where
+      pub going_round : round ≡ true → (a : Arena) (l : Laying) → InChain a l l.i start old laid → ChainLaid a l (lay_chain (stack_length l.slots) l.i start l) laid left (count + 1)
+      going_round e = chain_over (inr (eqb-true _ _ (sym asks_again ∙ e)))
+
+      pub going_on : round ≡ false → Going old laid start left (count + 1) ahead
+      going_on e =
+          record {
+            begun = omega (arith, going.begun);
+            on_the_way = λ a l chain.
+                let way = going.on_the_way a l chain in
+                turn_goes_on a l start c count t way left ahead (put a way.state l.i way.chain)
+                (eqb-false _ _ (sym asks ∙ some))
+                (λ q. eqb-false _ _ (sym asks_again ∙ e) (q ∙ sym (place_first l chain.i)));
+          }

@@ -1,21 +1,24 @@
 -- One link put in its place: the code's exchange, or nothing where it is there already, is the definition's step. Assumes nothing.
 use Prim.Native.Nat.{ℕ, zero, suc, ◌+◌, ◌≤◌, ◌<◌}
 use mathlib.Core.Path.{◌≡◌, refl, sym, ap, ◌∙◌}
+use mathlib.Core.Bool.{Bool, false, not}
 use mathlib.Core.List.{List, [], ◌∷◌, map}
 use native.Mathlib.Omega.{arith}
 use native.Mathlib.Numerals.{add-one}
 use native.Mathlib.Decide.{ℕ_discrete}
+use lib.Dec.{eqb}
 use lib.ListN.{length, get_or, set, take, take-append-drop}
+use borrow.Author.Tests.{eqb-true, not-false}
 use Rattle.definitions.specs.Columns.{at, put}
 use Rattle.definitions.specs.Arena.{Arena, capacity_limit, stack_length}
 use Rattle.definitions.specs.Compress.{Laying, exchanged, exchange_words, exchange_links, exchange_slots, put_at_i}
-use Rattle.definitions.proofs.Columns.{at_suc}
+use Rattle.definitions.proofs.Columns.{at_suc, length_put}
 use Rattle.chains.proofs.Links.{Link, DoublyLinked}
 use Rattle.demand3.proofs.Exchange.{exchanged_t, exchanged_other}
 use Rattle.demand3.proofs.Carried.{Room, Carried, same_stack, who_within, link_came, carried_linked}
 use Rattle.demand3.proofs.Loops.{within_stack, within_above, within_link}
 use Rattle.canonical_exchange.specs.Lent.{Lent}
-use Rattle.canonical_exchange.specs.Exchange.{InReach, Exchanged}
+use Rattle.canonical_exchange.specs.Exchange.{InReach, Exchanged, renamed_words}
 use Rattle.canonical_layout.specs.Held.{Held}
 use Rattle.canonical_layout.specs.Steps.{InChain, LinkLaid}
 use Rattle.canonical_layout.proofs.InPlace.{Exchangeable, in_reach, exchange_holds, comes_to_i}
@@ -97,6 +100,10 @@ module _ {a : Arena} {l : Laying} {first t : ℕ} {c : Lent} {laid : ℕ} (chain
   pub place_in_next : laid < length c.next
   place_in_next = omega (arith, place_left, chain.held.next_long)
 
+  pub place_in_left : {left : Lent} → Exchanged c left (laid + 1) t → laid < length left.next
+  unfolding renamed_words exchange_words
+  place_in_left {left} x = rw x.next (omega (arith, place_in_next, length_put))
+
   pub both_in_reach : InReach c (laid + 1) t
   both_in_reach = rw (add-one laid) (in_reach b l.from c sound chain.held (suc laid) t (omega arith) place_left target)
 
@@ -114,7 +121,8 @@ module _ {a : Arena} {l : Laying} {first t : ℕ} {c : Lent} {laid : ℕ} (chain
   exchanged_laid {left} x =
       link_laid left (exchange_holds b l.from c sound chain.held (suc laid) t (omega arith) place_left target left (rw (add-one laid) at x))
 
-  pub stays_laid : laid + 1 ≡ t → LinkLaid l t c (get_or c.next laid 0)
-  stays_laid e =
-      let same : t ≡ suc laid = sym e ∙ add-one laid in
+  -- the link is there already, as the code's test says
+  pub stays_laid : {moves : Bool} → moves ≡ not (eqb (laid + 1) t) → moves ≡ false → LinkLaid l t c (get_or c.next laid 0)
+  stays_laid is e =
+      let same : t ≡ suc laid = sym (eqb-true _ _ (not-false _ (sym is ∙ e))) ∙ add-one laid in
       link_laid c (rw (same, slots_itself (suc laid) b, words_itself (suc laid) l.from) chain.held)

@@ -1,12 +1,15 @@
 -- The search for the lowest link and the walk back to its chain's start, step by step against the definition. Assumes nothing.
 use Prim.Native.Nat.{ℕ, suc, ◌+◌, ◌-◌, ◌≤◌, ◌<◌}
-use mathlib.Core.Path.{◌≡◌, refl, sym, ap, ◌∙◌}
+use mathlib.Core.Path.{◌≡◌, sym, ap, ◌∙◌}
 use mathlib.Core.Logic.{◌≢◌}
-use mathlib.Core.Bool.{false}
+use mathlib.Core.Bool.{Bool, true, false}
 use mathlib.Core.List.{List}
 use native.Mathlib.Omega.{arith}
+use native.Mathlib.Nat.{sub-zero}
 use native.Mathlib.Numerals.{add-one}
+use lib.Dec.{eqb}
 use lib.ListN.{length, get_or}
+use borrow.Author.Tests.{eqb-true, eqb-false}
 use Rattle.definitions.specs.Columns.{at}
 use Rattle.definitions.specs.Arena.{Arena, stack_length, is_link}
 use Rattle.definitions.specs.Compress.{lowest_from, start_of}
@@ -24,9 +27,6 @@ pub record Searching (ws : List ℕ) (from s : ℕ) : Type 0 where
   pub begun : from ≤ s
   pub within : s ≤ length ws
   pub same : (b : Arena) → Occupied b ws → lowest_from b (s + 1) ≡ lowest_from b (from + 1)
-
-pub search_starts : (ws : List ℕ) (from : ℕ) → from ≤ length ws → Searching ws from from
-search_starts ws from h = record { begun = omega arith; within = h; same = λ b o. refl }
 
 module _ {ws : List ℕ} {from s : ℕ} (searching : Searching ws from s) where
   is_link_lem : (b : Arena) → Occupied b ws → get_or ws s 0 ≢ 0 → Link b (suc s)
@@ -53,39 +53,45 @@ module _ {ws : List ℕ} {from s : ℕ} (searching : Searching ws from s) where
 
 -- ---- the chain's start
 
--- the walk back has come to slot s, and as many steps are left
-pub record Back (ps : List ℕ) (o s left : ℕ) : Type 0 where
+-- the walk back has come to slot s in k steps
+pub record Back (ps : List ℕ) (o s k : ℕ) : Type 0 where
   pub link : (b : Arena) → Rooted b ps o → Link b s
-  pub same : (b : Arena) → Rooted b ps o → start_of b left o s ≡ start_of b (stack_length b) o o
+  pub same : (b : Arena) → Rooted b ps o → start_of b (length ps - k) o s ≡ start_of b (stack_length b) o o
 
-pub back_starts : (ps : List ℕ) (o : ℕ) → Back ps o o (length ps)
-back_starts ps o = record { link = λ b r. r.link; same = λ b r. ap (λ (m : ℕ). start_of b m o o) r.long }
+pub back_starts : (ps : List ℕ) (o : ℕ) → Back ps o o 0
+back_starts ps o = record { link = λ b r. r.link; same = λ b r. rw sub-zero (ap (λ (m : ℕ). start_of b m o o) r.long) }
 
-module _ {ps : List ℕ} {o s left : ℕ} (back : Back ps o s left) where
-  pub back_within : (b : Arena) → Rooted b ps o → (0 < s) × (s ≤ length ps)
-  back_within b r = (link_some b s (back.link b r), omega (arith, link_within b s (back.link b r), r.long))
+module _ {ps : List ℕ} {o s k : ℕ} (back : Back ps o s k) where
+  pub back_within : (b : Arena) × Rooted b ps o → (0 < s) × (s ≤ length ps)
+  back_within (b, r) = (link_some b s (back.link b r), omega (arith, link_within b s (back.link b r), r.long))
 
-  names : (b : Arena) → Rooted b ps o → (p : ℕ) → p ≡ at ps s → at b.prev s ≡ p
-  names b r p e = sym (r.same s (back.link b r)) ∙ sym e
-
-  step : left ≢ 0 → (b : Arena) → Rooted b ps o → start_of b (suc (left - 1)) o s ≡ start_of b (stack_length b) o o
-  step d b r = let e : suc (left - 1) ≡ left = omega arith in rw e (back.same b r)
-
-  pub back_stops : {p : ℕ} → left ≢ 0 → p ≡ at ps s → p ≡ 0 → (b : Arena) → Rooted b ps o → s ≡ start_of b (stack_length b) o o
-  back_stops {p} d e z b r = sym (start_stop b (left - 1) o s (names b r p e ∙ z)) ∙ step d b r
-
-  pub back_round : {p : ℕ} → left ≢ 0 → p ≡ at ps s → p ≢ 0 → p ≡ o → (b : Arena) → Rooted b ps o → o ≡ start_of b (stack_length b) o o
-  back_round {p} d e m z b r = sym (start_round b (left - 1) o s (λ q. m (sym (names b r p e) ∙ q)) (names b r p e ∙ z)) ∙ step d b r
-
-  pub back_goes_on : {p : ℕ} → left ≢ 0 → p ≡ at ps s → p ≢ 0 → p ≢ o → Back ps o p (left - 1)
-  back_goes_on {p} d e m k =
-      record {
-        link = λ b r. rw (names b r p e) at (r.linked.prev s (back.link b r) (λ q. m (sym (names b r p e) ∙ q))).0;
-        same = λ b r.
-            let on = start_on b (left - 1) o s (λ q. m (sym (names b r p e) ∙ q)) (λ q. k (sym (names b r p e) ∙ q)) in
-            ap (start_of b (left - 1) o) (sym (names b r p e)) ∙ (sym on ∙ step d b r);
-      }
-
-  pub back_ends : left ≡ 0 → (b : Arena) → Rooted b ps o → o ≡ start_of b (stack_length b) o o
+  pub back_ends : length ps ≤ k → (b : Arena) → Rooted b ps o → o ≡ start_of b (stack_length b) o o
   unfolding start_of
-  back_ends z b r = rw z at (back.same b r)
+  back_ends h b r = let none : length ps - k ≡ 0 = omega arith in rw none at (back.same b r)
+
+  -- one step more, to slot p, with what the code asks of it: whether it is none, and whether it is o
+  module _ {p : ℕ} (left : k < length ps) (is : p ≡ at ps s) {none : Bool} (asks : none ≡ eqb p 0) where
+    names : (b : Arena) → Rooted b ps o → at b.prev s ≡ p
+    names b r = sym (r.same s (back.link b r)) ∙ sym is
+
+    step : (b : Arena) → Rooted b ps o → start_of b (suc (length ps - (k + 1))) o s ≡ start_of b (stack_length b) o o
+    step b r = let e : suc (length ps - (k + 1)) ≡ length ps - k = omega arith in rw e (back.same b r)
+
+    pub back_stops : none ≡ true → (b : Arena) → Rooted b ps o → s ≡ start_of b (stack_length b) o o
+    back_stops e b r = sym (start_stop b (length ps - (k + 1)) o s (names b r ∙ eqb-true _ _ (sym asks ∙ e))) ∙ step b r
+
+    module _ (some : none ≡ false) {round : Bool} (asks_again : round ≡ eqb p o) where
+      goes : (b : Arena) → Rooted b ps o → at b.prev s ≢ 0
+      goes b r z = eqb-false _ _ (sym asks ∙ some) (sym (names b r) ∙ z)
+
+      pub back_round : round ≡ true → (b : Arena) → Rooted b ps o → o ≡ start_of b (stack_length b) o o
+      back_round e b r = sym (start_round b (length ps - (k + 1)) o s (goes b r) (names b r ∙ eqb-true _ _ (sym asks_again ∙ e))) ∙ step b r
+
+      pub back_goes_on : round ≡ false → Back ps o p (k + 1)
+      back_goes_on e =
+          record {
+            link = λ b r. rw (names b r) at (r.linked.prev s (back.link b r) (goes b r)).0;
+            same = λ b r.
+                let on = start_on b (length ps - (k + 1)) o s (goes b r) (λ q. eqb-false _ _ (sym asks_again ∙ e) (sym (names b r) ∙ q)) in
+                ap (start_of b (length ps - (k + 1)) o) (sym (names b r)) ∙ (sym on ∙ step b r);
+          }

@@ -1,6 +1,6 @@
 -- What the steps of canonical compression need and leave: one link put in its place, a chain laid out, all chains laid out. The arena a that is laid out and
 -- the definition's state l are not the code's: whatever they are, if the columns hold l's links before a step, they hold the next state's links after it.
-use Rattle.std.specs.Prelude.{ℕ, suc, ◌≤◌, ◌<◌, ◌≡◌, ◌⊎◌, List, length}
+use Rattle.std.specs.Prelude.{ℕ, suc, ◌≤◌, ◌<◌, ◌≡◌, ◌⊎◌, List, length, Option, Some, None}
 use Rattle.definitions.specs.Columns.{at, slots_from}
 use Rattle.definitions.specs.Arena.{Arena, capacity_limit, stack_length}
 use Rattle.definitions.specs.Compress.{Laying, put_at_i, lowest_from, laid_out}
@@ -8,8 +8,14 @@ use Rattle.chains.proofs.Links.{DoublyLinked}
 use Rattle.demand3.proofs.Carried.{Room}
 use Rattle.demand3.proofs.Loops.{Between, Within}
 use Rattle.demand3.proofs.Search.{FreeBetween}
+use Rattle.ptr.specs.declared.Slot.{Slot}
 use Rattle.canonical_exchange.specs.Lent.{Lent, lent, front, SamePast}
 use Rattle.canonical_layout.specs.Held.{Held}
+
+-- the word of a slot, if there is one
+abbrev pub slot_or_0 : Option Slot → ℕ
+slot_or_0 (Some s) = s.0
+slot_or_0 None = 0
 
 -- what laying out needs of an arena that passed the check
 pub record Layable (a : Arena) : Type 0 where
@@ -48,7 +54,7 @@ pub record AllLaid (a : Arena) (l : Laying) (c : Lent) : Type 0 where
   pub none : lowest_from l.slots l.i ≡ 0
   pub held : Held l.slots l.from c
 
--- r is the larger of two numbers
+-- r is the larger of two numbers. `lay_all` takes it by `max`: of the number of links in place and of that of the slots below the one found
 pub record Larger (x y r : ℕ) : Type 0 where
   pub left : x ≤ r
   pub right : y ≤ r

@@ -3,42 +3,59 @@ use Prim.Native.Nat.{ℕ}
 use mathlib.Core.Path.{◌≡◌, ap}
 use mathlib.Core.Logic.{inr}
 use mathlib.Core.Bool.{true, false}
-use mathlib.Core.List.{[]}
+use mathlib.Core.List.{List, []}
 use native.Mathlib.Omega.{arith}
-use Rattle.definitions.specs.Arena.{Arena}
+use lib.ListN.{get_or, replicate}
+use Rattle.std.specs.Prelude.{Ok, Err}
+use Rattle.definitions.specs.Arena.{Arena, stack_length}
 use Rattle.definitions.specs.Read.{Pointer, stale}
-use Rattle.definitions.specs.Reply.{Reply}
+use Rattle.definitions.specs.Reply.{Reply, refusal}
 use Rattle.definitions.specs.Walk.{Walk, start_at, state_of, walk_start, walk_from}
 use Rattle.definitions.proofs.Pointers.{fresh_link}
 use Rattle.definitions.proofs.Tests.{by_test}
+use Rattle.definitions.proofs.Slots.{allocated_some}
+use Rattle.refusals.specs.declared.Refusal.{Refusal}
+use Rattle.refusals.specs.Refusal.{refused}
 use Rattle.chain_iterators.specs.Walk.{walk_of, OnChain, start_reply}
 use Rattle.chain_iterators.specs.declared.ChainPtrAdvancer.{ChainPtrAdvancer}
-use Rattle.chain_iterators.specs.declared.Started.TheVariants.{At, Stale}
 use Rattle.chain_ahead.specs.Ahead.{slots_ahead}
 
 pub record StartedAt (a : Arena) (p : Pointer) (w : ChainPtrAdvancer) : Type 0 where
   pub fresh : stale a p ≡ false
   pub state : walk_of w ≡ start_at a p.slot
 
+-- the refusal r is that of a stale pointer, also where it is handed on with other fields
+pub record NotStarted (a : Arena) (p : Pointer) (r : Refusal) : Type 0 where
+  pub stale : stale a p ≡ true
+  pub refused : (fields : ℕ) (b : Arena) (l : List ℕ) → refused r fields b l ≡ refusal 12 fields b l
+
 module _ (a : Arena) (p : Pointer) where
-  pub started : (w : ChainPtrAdvancer) → start_reply (At w) a [] ≡ walk_start a p [] → StartedAt a p w
+  pub started : (w : ChainPtrAdvancer) → start_reply (Ok w) a [] ≡ walk_start a p [] → StartedAt a p w
   unfolding walk_start
   started w e =
       by_test (stale a p)
       (λ s. let z : ◌≡◌ {A = ℕ} 0 12 = ap (λ (r : Reply). r.number) (rw s at e) in absurd (omega arith))
       (λ s. record { fresh = s; state = ap (λ (r : Reply). state_of r.fields) (rw s at e) })
 
-  pub not_started : start_reply Stale a [] ≡ walk_start a p [] → stale a p ≡ true
+  pub not_started : (r : Refusal) → start_reply (Err r) a [] ≡ walk_start a p [] → NotStarted a p r
   unfolding walk_start
-  not_started e =
+  not_started r e =
       by_test (stale a p)
-      (λ s. s)
-      (λ s. let z : ◌≡◌ {A = ℕ} 12 0 = ap (λ (r : Reply). r.number) (rw s at e) in absurd (omega arith))
+      (λ s.
+      let f = rw s at e in
+      record {
+        stale = s;
+        refused = λ fields b l. ap (λ (q : Reply). record { number = q.number; broken = q.broken; side = q.side; fields = replicate fields 0; arena = b; back = l }) f;
+      })
+      (λ s.
+      let z : ◌≡◌ {A = ℕ} 0 p.slot = ap (λ (q : Reply). get_or q.fields 0 0) (rw s at e) in
+      let some = allocated_some a.generation (stack_length a) p.slot (fresh_link a p s) in
+      absurd (omega arith))
 
 -- it is at a link
-pub started_on_chain : {a : Arena} {p : Pointer} {w : ChainPtrAdvancer} → StartedAt a p w → OnChain a w.ptr
+pub started_on_chain : {a : Arena} {p : Pointer} {w : ChainPtrAdvancer} → StartedAt a p w → OnChain a w.ptr.0
 started_on_chain {a} {p} {w} start =
-    let there : w.ptr ≡ p.slot = ap (λ (v : Walk). v.position) start.state in
+    let there : w.ptr.0 ≡ p.slot = ap (λ (v : Walk). v.position) start.state in
     rw there (inr (fresh_link a p start.fresh))
 
 -- the slots ahead are the whole walk's

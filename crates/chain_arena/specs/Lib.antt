@@ -1,1 +1,1 @@
-pub mod Checked
+pub mod Checks

@@ -1,13 +1,14 @@
 -- What a drain answers, as number and fields (REFERENCE, Drain).
-use Rattle.std.specs.Prelude.{ℕ, List, [], ◌∷◌}
+use Rattle.std.specs.Prelude.{List, ℕ, [], ◌∷◌, Result, Ok, Err}
+use Rattle.std.specs.Option.{unwrap_or}
 use Rattle.definitions.specs.Arena.{Arena}
-use Rattle.definitions.specs.Reply.{Reply, reply, refusal}
+use Rattle.definitions.specs.Reply.{Reply, reply}
+use Rattle.refusals.specs.Refusal.{refused}
+use Rattle.refusals.specs.declared.Refusal.{Refusal}
 use Rattle.chain_drain.specs.declared.Drained.{Drained}
-use Rattle.chain_drain.specs.declared.Drained.TheVariants.{Done, Stale, Short}
 
--- 0 with how many links were removed and which one overflowed; 12 for a stale pointer; 14 for a report that is too short. a is the arena that is
--- left, and the report is handed back
-abbrev pub drain_reply : Drained → Arena → List ℕ → Reply
-drain_reply (Done items overflowed) a report = reply 0 (items ∷ overflowed ∷ []) a report
-drain_reply Stale a report = refusal 12 2 a report
-drain_reply Short a report = refusal 14 2 a report
+-- 0 with how many links were removed and which one overflowed, 0 if none did; or the refusal. a is the arena that is left, and the report is handed
+-- back
+abbrev pub drain_reply : Result Drained Refusal → Arena → List ℕ → Reply
+drain_reply (Ok d) a report = reply 0 (d.items ∷ unwrap_or d.overflowed 0 ∷ []) a report
+drain_reply (Err r) a report = refused r 2 a report

@@ -4,16 +4,14 @@ use mathlib.Core.Path.{◌≡◌, refl, sym, ap, ◌∙◌}
 use mathlib.Core.Bool.{Bool, true, false, cond}
 use mathlib.Core.List.{List, [], ◌∷◌, ◌++◌, append_assoc}
 use native.Mathlib.Omega.{arith}
-use native.Mathlib.Nat.{sub-zero}
 use lib.ListN.{length, get_or, take, drop, take-append-drop}
-use lib.Dec.{eqb}
-use borrow.Author.Tests.{ne_eqb, eqb-true}
+use Rattle.std.specs.Prelude.{Option, Some, None, IfSome}
+use Rattle.std.specs.Bool.{then_some}
+use Rattle.std.specs.Option.{unwrap_or, option_or}
 use Rattle.definitions.specs.Columns.{written}
 use Rattle.definitions.specs.Arena.{Arena, is_link}
 use Rattle.definitions.specs.Remove.{removed, removed_all, drain_items, overflow_item}
 use Rattle.definitions.proofs.Count.{in_here}
-use Rattle.definitions.proofs.Tests.{by_test}
-use Rattle.kept.proofs.AsLong.{AsLong, as_long_itself, as_long_too}
 use Rattle.drains.specs.Drainable.{Drainable}
 use Rattle.definitions.specs.Report.{item_slots}
 use Rattle.drains.proofs.Drainable.{drainable_rest}
@@ -27,43 +25,28 @@ abbrev pub left : ℕ → ℕ → List ℕ → List ℕ
 left items item report = item_slots (items - item) (drop (5 * item) report)
 
 -- of so many items listed in the report `old` of arena a₀, the first are drained; arena and report are now a and new
-pub record Draining (limit top : ℕ) (a₀ : Arena) (old : List ℕ) (items : ℕ) (a : Arena) (new : List ℕ) (item known : ℕ) : Type 0 where
+pub record Draining (limit top : ℕ) (a₀ : Arena) (old : List ℕ) (items : ℕ) (a : Arena) (new : List ℕ) (item : ℕ) (known : Option ℕ) : Type 0 where
   pub within : item ≤ items
   pub room : 5 * items ≤ length new
   pub size : length new ≡ length old
-  pub long : AsLong a a₀
   pub rest : Drainable limit a (left items item new)
   pub arena : removed_all top a (left items item new) ≡ removed_all top a₀ (item_slots items old)
   pub words : take (5 * item) new ++ (drain_items top a (left items item new) ++ drop (5 * items) new) ≡ drain_items top a₀ (item_slots items old) ++ drop (5 * items) old
-  pub overflow : cond (eqb known 0) (overflow_item top a (left items item new) (item + 1)) known ≡ overflow_item top a₀ (item_slots items old) 1
-
-module _ (limit top : ℕ) (a₀ : Arena) (old : List ℕ) (items : ℕ) where
-  pub draining_starts : Drainable limit a₀ (item_slots items old) → 5 * items ≤ length old → Draining limit top a₀ old items a₀ old 0 0
-  draining_starts can room =
-      let all : left items 0 old ≡ item_slots items old = ap (λ (n : ℕ). item_slots n old) (sub-zero items) in
-      record {
-        within = omega arith;
-        room = room;
-        size = refl;
-        long = as_long_itself a₀;
-        rest = rw all can;
-        arena = rw all refl;
-        words = rw all refl;
-        overflow = rw all refl;
-      }
+  pub overflow : unwrap_or known (overflow_item top a (left items item new) (item + 1)) ≡ overflow_item top a₀ (item_slots items old) 1
 
 -- what is known of an overflow, after one more removal
-overflow_on : (known item : ℕ) (over : Bool) (later : ℕ) → cond (eqb (cond (eqb known 0) (cond over (item + 1) 0) known) 0) later (cond (eqb known 0) (cond over (item + 1) 0) known) ≡ cond (eqb known 0) (cond over (item + 1) later) known
-overflow_on known item over later =
-    by_test (eqb known 0)
-    (λ none. rw none (this over))
-    (λ some. rw (some, some) refl)
-  where
-    this : (over : Bool) → cond (eqb (cond over (item + 1) 0) 0) later (cond over (item + 1) 0) ≡ cond over (item + 1) later
-    this true = rw (ne_eqb (item + 1) 0 (λ z. omega arith)) refl
-    this false = refl
+overflow_on : (known : Option ℕ) (item : ℕ) (over : Bool) (later : ℕ) → unwrap_or (option_or known (then_some over item)) later ≡ unwrap_or known (cond over item later)
+overflow_on (Some k) item over later = refl
+overflow_on None item true later = refl
+overflow_on None item false later = refl
 
-module _ {limit top : ℕ} {a₀ : Arena} {old : List ℕ} {items : ℕ} {a : Arena} {new : List ℕ} {item known : ℕ} (d : Draining limit top a₀ old items a new item known) where
+-- and what is known counts from 1
+pub counted_from_1 : (known : Option ℕ) (item : ℕ) (over : Bool) → IfSome known (λ i. 0 < i) → IfSome (option_or known (then_some over (item + 1))) (λ i. 0 < i)
+counted_from_1 (Some k) item over h = h
+counted_from_1 None item true h = omega arith
+counted_from_1 None item false h = h
+
+module _ {limit top : ℕ} {a₀ : Arena} {old : List ℕ} {items : ℕ} {a : Arena} {new : List ℕ} {item : ℕ} {known : Option ℕ} (d : Draining limit top a₀ old items a new item known) where
   -- all items are drained
   pub draining_ends : items ≤ item → ItemsDrained top a₀ (item_slots items old) old a new known
   unfolding item_slots removed_all drain_items overflow_item written
@@ -76,11 +59,8 @@ module _ {limit top : ℕ} {a₀ : Arena} {old : List ℕ} {items : ℕ} {a : Ar
       record {
         arena = rw none at d.arena;
         report = sym (take-append-drop (5 * items) new) ∙ (rw (none, e) at d.words) ∙ ap (λ (n : ℕ). drain_items top a₀ (item_slots items old) ++ drop n old) five;
-        overflowed = sym (known_is known) ∙ (rw none at d.overflow);
+        overflowed = rw none at d.overflow;
       }
-    where
-      known_is : (k : ℕ) → cond (eqb k 0) 0 k ≡ k
-      known_is k = by_test (eqb k 0) (λ z. rw z (sym (eqb-true k 0 z))) (λ z. rw z refl)
 
   -- the next item
   module _ (more : item < items) where
@@ -130,16 +110,15 @@ module _ {limit top : ℕ} {a₀ : Arena} {old : List ℕ} {items : ℕ} {a : Ar
       gone : b ≡ removed top a s
       gone = drained.taken.arena
 
-      pub draining_goes_on : AsLong b a → Draining limit top a₀ old items b words (item + 1) (cond (eqb known 0) (cond over (item + 1) 0) known)
+      pub draining_goes_on : Draining limit top a₀ old items b words (item + 1) (option_or known (then_some over (item + 1)))
       unfolding removed_all drain_items overflow_item
-      draining_goes_on long =
+      draining_goes_on =
           record {
             within = omega arith;
             room = rw size d.room;
             size = size ∙ d.size;
-            long = as_long_too long d.long;
             rest = rw (same, gone) (drainable_rest limit top a s others can);
             arena = rw (same, gone) (rw here at d.arena);
             words = rw (added, same, gone, past) (append_assoc (take (5 * item) new) (item_words a s) _ ∙ (rw here at d.words));
-            overflow = rw (same, gone) (overflow_on known item over _ ∙ (rw (here, ← drained.taken.overflowed) at d.overflow));
+            overflow = rw (same, gone) (overflow_on known (item + 1) over _ ∙ (rw (here, ← drained.taken.overflowed) at d.overflow));
           }

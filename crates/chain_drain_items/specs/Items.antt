@@ -1,5 +1,6 @@
 -- What the steps of a drain ask and leave.
-use Rattle.std.specs.Prelude.{ℕ, ◌+◌, ◌*◌, ◌≡◌, Bool, List, [], ◌∷◌, ◌++◌, length, take, drop}
+use Rattle.std.specs.Prelude.{ℕ, ◌+◌, ◌*◌, ◌≡◌, Bool, List, [], ◌∷◌, ◌++◌, Option, length, take, drop}
+use Rattle.std.specs.Option.{unwrap_or}
 use Rattle.definitions.specs.Columns.{at, written}
 use Rattle.definitions.specs.Arena.{Arena}
 use Rattle.definitions.specs.Remove.{removed_all, drain_items, overflow_item}
@@ -24,8 +25,8 @@ pub record ItemDrained (top : ℕ) (a : Arena) (s i : ℕ) (old : List ℕ) (lef
   pub taken : TakenOut top a s left overflow
   pub report : new ≡ overwritten i (item_words a s) old
 
--- the slots ss became the items of the report
-pub record ItemsDrained (top : ℕ) (a : Arena) (ss old : List ℕ) (left : Arena) (new : List ℕ) (item : ℕ) : Type 0 where
+-- the slots ss became the items of the report, and item tells which one made the generation overflow, if one did
+pub record ItemsDrained (top : ℕ) (a : Arena) (ss old : List ℕ) (left : Arena) (new : List ℕ) (item : Option ℕ) : Type 0 where
   pub arena : left ≡ removed_all top a ss
   pub report : new ≡ written (drain_items top a ss) old
-  pub overflowed : item ≡ overflow_item top a ss 1
+  pub overflowed : unwrap_or item 0 ≡ overflow_item top a ss 1

@@ -1,122 +1,112 @@
--- The links of a walk that pass a test, as the walk goes on: those passed so far and those still ahead are all that were ahead. Assumes nothing.
+-- What is due ahead of a walk, step by step. Assumes nothing.
 use Prim.Native.Nat.{ℕ, ◌+◌, ◌≤◌, ◌<◌}
 use mathlib.Core.Path.{◌≡◌, refl, sym, ap, ◌∙◌}
 use mathlib.Core.Logic.{inl, inr}
-use mathlib.Core.Bool.{Bool, true, false}
+use mathlib.Core.Bool.{true, false}
 use mathlib.Core.List.{List, [], ◌∷◌, ◌++◌, append_assoc, append-nil}
 use native.Mathlib.Omega.{arith}
 use lib.ListN.{length, set, length-append}
+use Rattle.std.specs.Prelude.{◌≢◌, Some, None}
+use Rattle.definitions.specs.Arena.{Arena, capacity_limit}
 use Rattle.definitions.specs.Columns.{keep, written}
-use Rattle.definitions.specs.Arena.{Arena}
+use Rattle.definitions.specs.Check.{verdict}
 use Rattle.definitions.specs.Read.{Pointer}
 use Rattle.definitions.specs.Walk.{Walk, Stepped, step}
 use Rattle.definitions.proofs.Count.{keep_yes, keep_no}
-use Rattle.definitions.proofs.Shaped.{Shaped}
+use Rattle.definitions.proofs.Shaped.{shaped}
 use Rattle.definitions.proofs.Slots.{keep_parts}
 use Rattle.definitions.proofs.Steps.{link_slot}
 use Rattle.definitions.proofs.Written.{written_none, length_written, written_more}
 use Rattle.walks.proofs.AnyState.{step_answers_links}
+use Rattle.well_formed.proofs.WellFormed.{well_formed_if_passes}
+use Rattle.ptr.specs.declared.Ptr.{Ptr}
+use Rattle.frame_clock.specs.declared.Window.{Window}
+use Rattle.chain_iterators.specs.declared.ChainPtrAdvancer.{ChainPtrAdvancer}
+use Rattle.chain_iterators.specs.Walk.{walk_of, stepped_of, OnChain}
+use Rattle.chain_iterators.proofs.Chain.{step_on_chain}
 use Rattle.chain_ahead.specs.Ahead.{slots_ahead}
-use Rattle.chain_ahead.proofs.Ahead.{ahead_none, ahead_some, ahead_short}
+use Rattle.chain_ahead.proofs.Ahead.{ahead_none, ahead_less, ahead_some, ahead_short}
+use Rattle.chain_due.specs.Due.{is_due, due_ahead}
 
--- a walk that was at w₀ is at w, and so many links have passed the test
-pub record Passed (a : Arena) (test : ℕ → Bool) (w₀ w : Walk) (links : ℕ) : Type 0 where
-  pub done : List ℕ
-  pub all : done ++ keep test (slots_ahead a w) ≡ keep test (slots_ahead a w₀)
-  pub size : length done ≡ links
+-- no more links are due than advances are left
+pub due_short : (a : Arena) (win : Window) (w : Walk) → length (due_ahead a win w) ≤ w.left
+due_short a win w = omega (arith, keep_parts (is_due a.payload win) (slots_ahead a w), ahead_short a w)
 
-pub passed_starts : (a : Arena) (test : ℕ → Bool) (w₀ : Walk) → Passed a test w₀ w₀ 0
-passed_starts a test w₀ = record { done = []; all = refl; size = refl }
+-- nor more than there are links
+pub due_fits : (a : Arena) (win : Window) (w : Walk) (n : ℕ) → length (slots_ahead a w) ≤ n → length (due_ahead a win w) ≤ n
+due_fits a win w n h = omega (arith, keep_parts (is_due a.payload win) (slots_ahead a w))
 
--- a slot of the payload column
-pub record InColumn (limit : ℕ) (a : Arena) (s : ℕ) : Type 0 where
-  pub some : 0 < s
-  pub within : s ≤ length a.payload
-  pub small : s ≤ limit
+-- a step that answers none: nothing was ahead
+pub due_none : (a : Arena) (win : Window) (w : Walk) (v : ChainPtrAdvancer) → stepped_of None v ≡ step a w → due_ahead a win w ≡ []
+unfolding keep
+due_none a win w v e = ap (keep (is_due a.payload win)) (ahead_none a w (stepped_of None v) e refl)
 
--- a step that answers a slot answers one of the payload column
-pub step_slot : {limit : ℕ} {a : Arena} → Shaped limit a → (w : Walk) {r : Stepped} → r ≡ step a w → (r.answer.slot ≡ 0 → ⊥) → InColumn limit a r.answer.slot
-step_slot {limit} {a} shape w {r} e d =
-    rw e (elim (step_answers_links a w) [
-      | inl none ↦ absurd (d (rw e (ap (λ (p : Pointer). p.slot) none)))
-      | inr link ↦
-          let s = link_slot _ _ _ link.0 in
-          record { some = s.0; within = omega (arith, s.1, shape.within, shape.payload_length); small = omega (arith, s.1, shape.within, shape.small) }
-    ])
+-- a step that answers the link p, and leaves v
+pub record Came (a : Arena) (win : Window) (w : Walk) (v : ChainPtrAdvancer) (p : Ptr) : Type 0 where
+  pub place : (0 < p.inx.0) × (p.inx.0 ≤ length a.payload)
+  pub less : v.max_advances < w.left
+  pub on_chain : OnChain a v.ptr.0
+  pub yes : is_due a.payload win p.inx.0 ≡ true → due_ahead a win w ≡ p.inx.0 ∷ due_ahead a win (walk_of v)
+  pub no : is_due a.payload win p.inx.0 ≡ false → due_ahead a win w ≡ due_ahead a win (walk_of v)
 
-module _ {a : Arena} {test : ℕ → Bool} {w₀ w : Walk} {links : ℕ} (p : Passed a test w₀ w links) {r : Stepped} (e : r ≡ step a w) where
-  -- the walk is over
-  pub passed_all : r.answer.slot ≡ 0 → p.done ≡ keep test (slots_ahead a w₀)
-  unfolding keep
-  passed_all z = sym (append-nil p.done) ∙ ap (λ (ss : List ℕ). p.done ++ keep test ss) (sym (ahead_none a w r e z)) ∙ p.all
-
-  pub passed_count : r.answer.slot ≡ 0 → links ≡ length (keep test (slots_ahead a w₀))
-  passed_count z = sym p.size ∙ ap length (passed_all z)
-
-  module _ (d : r.answer.slot ≡ 0 → ⊥) where
-    -- the next link passes, or does not
-    pub passed_yes : test r.answer.slot ≡ true → Passed a test w₀ r.state (links + 1)
-    passed_yes passes = record {
-      done = p.done ++ (r.answer.slot ∷ []);
-      all =
-          append_assoc p.done (r.answer.slot ∷ []) (keep test (slots_ahead a r.state))
-          ∙ ap (λ (ss : List ℕ). p.done ++ ss) (sym (keep_yes test r.answer.slot (slots_ahead a r.state) passes) ∙ ap (keep test) (sym (ahead_some a w r e d)))
-          ∙ p.all;
-      size = length-append p.done (r.answer.slot ∷ []) ∙ ap (λ (n : ℕ). n + 1) p.size;
+pub came : (a : Arena) (win : Window) (w : Walk) (v : ChainPtrAdvancer) (p : Ptr) → verdict capacity_limit a ≡ 0 → OnChain a w.position → stepped_of (Some p) v ≡ step a w → p.inx.0 ≢ 0 → Came a win w v p
+came a win w v p ok on e d =
+    let r = stepped_of (Some p) v in
+    let some = ap (keep (is_due a.payload win)) (ahead_some a w r e d) in
+    let shape = shaped capacity_limit a ok in
+    record {
+      place = elim (step_answers_links a w) [
+        | inl none ↦ absurd (d (ap (λ (s : Stepped). s.answer.slot) e ∙ ap (λ (q : Pointer). q.slot) none))
+        | inr link ↦ let s = link_slot _ _ _ (rw (← e) at link.0) in (s.0, omega (arith, s.1, shape.within, shape.payload_length))
+      ];
+      less = ahead_less a w r e d;
+      on_chain = step_on_chain (well_formed_if_passes capacity_limit a ok) w e on;
+      yes = λ y. some ∙ keep_yes _ p.inx.0 _ y;
+      no = λ n. some ∙ keep_no _ p.inx.0 _ n;
     }
 
-    pub passed_no : test r.answer.slot ≡ false → Passed a test w₀ r.state links
-    passed_no fails = record {
-      done = p.done;
-      all =
-          ap (λ (ss : List ℕ). p.done ++ ss) (sym (keep_no test r.answer.slot (slots_ahead a r.state) fails) ∙ ap (keep test) (sym (ahead_some a w r e d)))
-          ∙ p.all;
-      size = p.size;
-    }
+-- a walk that was at w₀ is at w, on a chain, and of what was due ahead so many were counted
+pub record Counted (a : Arena) (win : Window) (w₀ w : Walk) (count : ℕ) : Type 0 where
+  pub all : count + length (due_ahead a win w) ≡ length (due_ahead a win w₀)
+  pub on_chain : OnChain a w.position
 
-    -- no more pass than the walk answers
-    pub passed_small : test r.answer.slot ≡ true → links + 1 ≤ length (slots_ahead a w₀)
-    passed_small passes =
-        let more = passed_yes passes in
-        omega (arith, more.size, ap length more.all, length-append more.done (keep test (slots_ahead a r.state)), keep_parts test (slots_ahead a w₀))
+-- or they stand in the report
+pub record Listed (a : Arena) (win : Window) (w₀ w : Walk) (old new : List ℕ) (reported : ℕ) : Type 0 where
+  pub listed : List ℕ
+  pub all : listed ++ due_ahead a win w ≡ due_ahead a win w₀
+  pub size : length listed ≡ reported
+  pub report : new ≡ written listed old
+  pub on_chain : OnChain a w.position
 
-    pub passed_few : test r.answer.slot ≡ true → links + 1 ≤ w₀.left
-    passed_few passes = omega (arith, passed_small passes, ahead_short a w₀)
+pub listed_starts : (a : Arena) (win : Window) (w₀ : Walk) (old : List ℕ) → OnChain a w₀.position → Listed a win w₀ w₀ old old 0
+listed_starts a win w₀ old on = record { listed = []; all = refl; size = refl; report = sym (written_none old); on_chain = on }
 
--- the links that have passed stand in the report
-pub record Reported (a : Arena) (test : ℕ → Bool) (w₀ w : Walk) (old new : List ℕ) (links : ℕ) : Type 0 where
-  pub passed : Passed a test w₀ w links
-  pub report : new ≡ written passed.done old
+module _ {a : Arena} {win : Window} {w₀ w : Walk} {old new : List ℕ} {reported : ℕ} (h : Listed a win w₀ w old new reported) where
+  -- nothing is left to come
+  pub listed_all : due_ahead a win w ≡ [] → (reported ≡ length (due_ahead a win w₀)) × (new ≡ written (due_ahead a win w₀) old)
+  listed_all z =
+      let whole : h.listed ≡ due_ahead a win w₀ = sym (append-nil h.listed) ∙ ap (λ (ss : List ℕ). h.listed ++ ss) (sym z) ∙ h.all in
+      (sym h.size ∙ ap length whole, h.report ∙ ap (λ (ss : List ℕ). written ss old) whole)
 
-pub reported_starts : (a : Arena) (test : ℕ → Bool) (w₀ : Walk) (old : List ℕ) → Reported a test w₀ w₀ old old 0
-unfolding passed_starts
-reported_starts a test w₀ old = record { passed = passed_starts a test w₀; report = sym (written_none old) }
+  -- the link p came
+  module _ {v : ChainPtrAdvancer} {p : Ptr} (c : Came a win w v p) where
+    -- and is not due
+    pub listed_no : is_due a.payload win p.inx.0 ≡ false → Listed a win w₀ (walk_of v) old new reported
+    listed_no n = record { listed = h.listed; all = ap (λ (ss : List ℕ). h.listed ++ ss) (sym (c.no n)) ∙ h.all; size = h.size; report = h.report; on_chain = c.on_chain }
 
-module _ {a : Arena} {test : ℕ → Bool} {w₀ w : Walk} {old new : List ℕ} {links : ℕ} (h : Reported a test w₀ w old new links) where
-  fits : length (slots_ahead a w₀) ≤ length old → length h.passed.done ≤ length old
-  fits room = omega (arith, ap length h.passed.all, length-append h.passed.done (keep test (slots_ahead a w)), keep_parts test (slots_ahead a w₀))
+    -- or is: the report has room for it
+    module _ (y : is_due a.payload win p.inx.0 ≡ true) (room : length (slots_ahead a w₀) ≤ length old) where
+      fits : length h.listed + 1 ≤ length old
+      fits = omega (arith, ap length h.all, length-append h.listed (due_ahead a win w), ap length (c.yes y), due_fits a win w₀ (length old) room)
 
-  pub reported_length : length (slots_ahead a w₀) ≤ length old → length new ≡ length old
-  reported_length room = ap length h.report ∙ length_written h.passed.done old (fits room)
+      pub listed_room : reported < length new
+      listed_room = omega (arith, fits, h.size, ap length h.report ∙ length_written h.listed old (omega (arith, fits)))
 
-  module _ {r : Stepped} (e : r ≡ step a w) where
-    pub reported_all : r.answer.slot ≡ 0 → (links ≡ length (keep test (slots_ahead a w₀))) × (new ≡ written (keep test (slots_ahead a w₀)) old)
-    reported_all z = (passed_count h.passed e z, h.report ∙ ap (λ (ws : List ℕ). written ws old) (passed_all h.passed e z))
-
-    module _ (d : r.answer.slot ≡ 0 → ⊥) where
-      pub reported_no : test r.answer.slot ≡ false → Reported a test w₀ r.state old new links
-      unfolding passed_no
-      reported_no fails = record { passed = passed_no h.passed e d fails; report = h.report }
-
-      module _ (room : length (slots_ahead a w₀) ≤ length old) (passes : test r.answer.slot ≡ true) where
-        pub reported_room : links < length new
-        reported_room = omega (arith, passed_small h.passed e d passes, reported_length room)
-
-        pub reported_yes : Reported a test w₀ r.state old (set new links r.answer.slot) (links + 1)
-        unfolding passed_yes
-        reported_yes = record {
-          passed = passed_yes h.passed e d passes;
-          report =
-              ap (λ (l : List ℕ). set l links r.answer.slot) h.report
-              ∙ written_more h.passed.done old links (r.answer.slot ∷ []) h.passed.size (omega (arith, passed_small h.passed e d passes));
-        }
+      pub listed_yes : Listed a win w₀ (walk_of v) old (set new reported p.inx.0) (reported + 1)
+      listed_yes = record {
+        listed = h.listed ++ (p.inx.0 ∷ []);
+        all = append_assoc h.listed (p.inx.0 ∷ []) (due_ahead a win (walk_of v)) ∙ ap (λ (ss : List ℕ). h.listed ++ ss) (sym (c.yes y)) ∙ h.all;
+        size = length-append h.listed (p.inx.0 ∷ []) ∙ ap (λ (n : ℕ). n + 1) h.size;
+        report = ap (λ (l : List ℕ). set l reported p.inx.0) h.report ∙ written_more h.listed old reported (p.inx.0 ∷ []) h.size (omega (arith, fits, h.size));
+        on_chain = c.on_chain;
+      }

@@ -1,3 +1,4 @@
 pub mod Around
+pub mod Reading
 pub mod Replies
 pub mod Sides

@@ -1,84 +1,59 @@
--- The reply to an insertion: the slot that was chosen, the place that was found, and what writing the link there left. Assumes nothing.
+-- An insertion by the slot that is chosen: the reply, and what writing the link there needs. Assumes nothing.
 use Prim.Native.Nat.{ℕ, ◌≤◌}
-use mathlib.Core.Bool.{true, false, true≢false}
-use mathlib.Core.List.{[], ◌∷◌}
-use mathlib.Core.Logic.{◌≢◌}
+use mathlib.Core.Bool.{false, true≢false}
+use mathlib.Core.List.{[]}
 use mathlib.Core.Path.{◌≡◌, refl, sym, ◌∙◌}
 use native.Mathlib.Omega.{arith}
 use native.Mathlib.Nat.{pos_of_ne-zero}
 use lib.Dec.{eqb}
-use borrow.Author.Tests.{eqb-false}
+use borrow.Author.Tests.{eqb-false, ne_eqb}
 use Rattle.definitions.proofs.Freelist.{root_within}
 use Rattle.definitions.proofs.Tests.{by_test}
-use Rattle.definitions.specs.Arena.{Arena, capacity, capacity_limit, stack_length, root, current}
+use Rattle.definitions.specs.Arena.{Arena, capacity, capacity_limit, stack_length, root}
 use Rattle.definitions.specs.Check.{WellFormed}
-use Rattle.definitions.specs.Insert.{
-  InsertKind,
-  Disconnected,
-  SingleLinkCyclic,
-  ChainEnd,
-  ChainStart,
-  NextTo,
-  PrevTo,
-  AtInterlink,
-  Bridge,
-  Place,
-  nowhere,
-  between,
-  place_of,
-  new_slot,
-  is_full,
-  inserted,
-  insert_at,
-  insert,
-  Coded,
-  kind,
-  unknown,
-  insert_coded,
-}
-use Rattle.definitions.specs.Reply.{Reply, reply, refusal}
+use Rattle.definitions.specs.Insert.{InsertKind, Disconnected, SingleLinkCyclic, ChainEnd, ChainStart, NextTo, PrevTo, AtInterlink, Bridge, nowhere, between, place_of, new_slot, is_full, insert_at, insert}
 use Rattle.well_formed.proofs.WellFormed.{shape_if_well_formed}
-use Rattle.base_insertion.specs.Insertion.{Roomy, Insertable, slot_for}
+use Rattle.base_insertion.specs.Insertion.{Insertable, slot_for}
 use Rattle.chains.proofs.Links.{well_formed_linked}
 use Rattle.kept.proofs.PutIn.{u_within, v_within, fits_if_placed, gap_of}
 
--- what choosing a slot needs: a header of its length, a stack within the columns, and columns within the limit
-pub roomy : {a : Arena} → WellFormed capacity_limit a → Roomy a.header (capacity a)
-roomy {a} ok =
-    record { header = ok.header; stack = ok.within; small = ok.small }
-
--- ---- the slot that was chosen
-
 module _ (a : Arena) where
-  slot_full : is_full a ≡ true → slot_for a.header (capacity a) ≡ 0
+  -- the slot is 0 where the arena is full
+  pub full_by_slot : is_full a ≡ eqb (slot_for a.header (capacity a)) 0
   unfolding is_full
-  slot_full e = by_test (eqb (root a) 0) (λ r. rw (r, rw r at e) refl) (λ r. absurd (true≢false (sym (rw r at e))))
+  full_by_slot =
+      by_test (eqb (root a) 0)
+      (λ r. by_test (eqb (stack_length a) (capacity a)) (λ n. rw (r, n) refl) (λ n. rw (r, n) (sym (ne_eqb _ _ (λ z. omega arith)))))
+      (λ r. rw (r, r) refl)
 
-  slot_room : is_full a ≡ false → slot_for a.header (capacity a) ≡ new_slot a
-  unfolding is_full new_slot
-  slot_room e = by_test (eqb (root a) 0) (λ r. rw (r, rw r at e) refl) (λ r. rw r refl)
-
-  some_slot : new_slot a ≡ 0 → ⊥
+  pub new_slot_lem : eqb (slot_for a.header (capacity a)) 0 ≡ false → new_slot a ≡ slot_for a.header (capacity a)
   unfolding new_slot
-  some_slot z = by_test (eqb (root a) 0) (λ r. absurd (omega (arith, rw r at z))) (λ r. eqb-false _ _ r (rw r at z))
+  new_slot_lem d =
+      by_test (eqb (root a) 0)
+      (λ r. by_test (eqb (stack_length a) (capacity a)) (λ n. absurd (true≢false (rw (r, n) at d))) (λ n. rw (r, n) refl))
+      (λ r. rw r refl)
 
-  -- none, where the arena is full
-  pub no_slot : {t : ℕ} → t ≡ slot_for a.header (capacity a) → t ≡ 0 → is_full a ≡ true
-  no_slot e z = by_test (is_full a) (λ f. f) (λ f. absurd (some_slot (sym (slot_room f) ∙ sym e ∙ z)))
+  -- so an insertion may go by the slot that was chosen, before it is known whether there is room
+  pub insert_by_slot : (k : InsertKind) (x : ℕ) → insert a k x [] ≡ insert_at a (place_of a (slot_for a.header (capacity a)) k) x []
+  unfolding insert insert_at place_of
+  insert_by_slot Disconnected x = refl
+  insert_by_slot SingleLinkCyclic x =
+      by_test (is_full a) (λ f. rw f refl) (λ f. rw (new_slot_lem (sym full_by_slot ∙ f)) refl)
+  insert_by_slot (ChainEnd p) x = refl
+  insert_by_slot (ChainStart p) x = refl
+  insert_by_slot (NextTo p) x = refl
+  insert_by_slot (PrevTo p) x = refl
+  insert_by_slot (AtInterlink p q) x = refl
+  insert_by_slot (Bridge p q) x = refl
 
-  pub room : {t : ℕ} → t ≡ slot_for a.header (capacity a) → t ≢ 0 → is_full a ≡ false
-  room e d = by_test (is_full a) (λ f. absurd (d (e ∙ slot_full f))) (λ f. f)
-
-  pub new_slot_lem : {t : ℕ} → t ≡ slot_for a.header (capacity a) → t ≢ 0 → t ≡ new_slot a
-  new_slot_lem e d = e ∙ slot_room (room e d)
-
--- ---- whether a kind has a place does not depend on the slot of the new link
+pub ruleset by_slot = (insert_by_slot, full_by_slot, new_slot_lem)
 
 -- nowhere is no pair of slots
 no_pair : {u v : ℕ} → nowhere ≡ between u v → ⊥
 no_pair e = let z : ◌≡◌ {A = ℕ} 0 1 = cc in omega arith
 
-some_place : (a : Arena) (t t' : ℕ) (k : InsertKind) → nowhere ≡ place_of a t k → nowhere ≡ place_of a t' k
+-- whether a kind has a place does not depend on the slot of the new link: a kind that has none for one slot has none for another (DECISIONS, 56)
+pub some_place : (a : Arena) (t t' : ℕ) (k : InsertKind) → nowhere ≡ place_of a t k → nowhere ≡ place_of a t' k
 unfolding place_of
 some_place a t t' Disconnected e = absurd (no_pair e)
 some_place a t t' SingleLinkCyclic e = absurd (no_pair e)
@@ -89,31 +64,8 @@ some_place a t t' (PrevTo p) e = e
 some_place a t t' (AtInterlink p q) e = e
 some_place a t t' (Bridge p q) e = e
 
--- ---- the replies
-
-module _ (a : Arena) (k : InsertKind) (x : ℕ) where
-  pub no_place : (t : ℕ) → nowhere ≡ place_of a t k → refusal 17 2 a [] ≡ insert a k x []
-  unfolding insert insert_at
-  no_place t e = rw (← some_place a t (new_slot a) k e) refl
-
-  full_at : (p : Place) → (nowhere ≡ p → ⊥) → is_full a ≡ true → refusal 18 2 a [] ≡ insert_at a p x []
-  unfolding insert_at
-  full_at nowhere d f = absurd (d refl)
-  full_at (between u v) d f = rw f refl
-
-  pub no_room : (t u v : ℕ) → between u v ≡ place_of a t k → is_full a ≡ true → refusal 18 2 a [] ≡ insert a k x []
-  unfolding insert
-  no_room t u v e f = full_at (place_of a (new_slot a) k) (λ n. no_pair (some_place a (new_slot a) t k n ∙ sym e)) f
-
-  pub put_in : (t u v : ℕ) {left : Arena} → between u v ≡ place_of a t k → is_full a ≡ false → t ≡ new_slot a → left ≡ inserted a u v x → reply 0 (t ∷ current a ∷ []) left [] ≡ insert a k x []
-  unfolding insert insert_at
-  put_in t u v e f s l = rw (l, ← s) (done (place_of a t k) e)
-    where
-      done : (p : Place) → between u v ≡ p → reply 0 (t ∷ current a ∷ []) (inserted a u v x) [] ≡ insert_at a p x []
-      done p q = rw (← q, f, s) refl
-
 -- what writing the link needs
-pub insertable : {a : Arena} (k : InsertKind) (t u v : ℕ) → WellFormed capacity_limit a → t ≡ slot_for a.header (capacity a) → t ≢ 0 → between u v ≡ place_of a t k → Insertable a t u v
+pub insertable : {a : Arena} (k : InsertKind) (t u v : ℕ) → WellFormed capacity_limit a → t ≡ slot_for a.header (capacity a) → eqb t 0 ≡ false → between u v ≡ place_of a t k → Insertable a t u v
 insertable {a} k t u v ok chosen some e =
     let rooted = root_within a ok.freelist.0 ok.freelist.1 in
     let counts = shape_if_well_formed capacity_limit a ok in
@@ -128,8 +80,8 @@ insertable {a} k t u v ok chosen some e =
         links = omega (arith, counts.links_within, ok.small);
         rooted = omega (arith, ok.within, ok.next_length);
       };
-      slot = new_slot_lem a chosen some;
-      some = pos_of_ne-zero some;
+      slot = chosen ∙ sym (new_slot_lem a (rw chosen at some));
+      some = pos_of_ne-zero (eqb-false t 0 some);
       in_prev = fits;
       in_next = rw ok.next_length fits;
       in_generation = rw ok.generation_length fits;
@@ -146,14 +98,3 @@ insertable {a} k t u v ok chosen some e =
             by_test (eqb (root a) 0)
             (λ r. by_test (eqb (stack_length a) (capacity a)) (λ n. rw (r, n) (omega arith)) (λ n. rw (r, n) (let d = eqb-false (stack_length a) (capacity a) n in omega (arith, ok.within))))
             (λ r. rw r (omega (arith, root_within a ok.freelist.0 ok.freelist.1, ok.within)))
-
--- ---- by its code
-
-module _ (a : Arena) (x : ℕ) {coded : Coded} where
-  pub no_kind : unknown ≡ coded → refusal 16 2 a [] ≡ insert_coded a coded x []
-  unfolding insert_coded
-  no_kind e = rw (← e) refl
-
-  pub its_kind : (k : InsertKind) {r : Reply} → kind k ≡ coded → r ≡ insert a k x [] → r ≡ insert_coded a coded x []
-  unfolding insert_coded
-  its_kind k e done = rw (← e) done

@@ -1,98 +1,54 @@
 // Insertion of a link (`insert_within_capacity` of chain/chain_traits.rs) into an arena that passed the check: one for all kinds.
 #![tactic(auto)]
 
-ghost use Rattle.std.specs.Prelude.{◌≡◌, List, [], ℕ};
-ghost use Rattle.definitions.specs.Arena.{Arena, capacity_limit, arena};
+ghost use Rattle.std.specs.Prelude.{◌≡◌, []};
+ghost use Rattle.definitions.specs.Arena.{capacity_limit};
 ghost use Rattle.definitions.specs.Check.{WellFormed};
 ghost use Rattle.definitions.specs.Insert.{kind_of, insert, insert_coded};
-ghost use Rattle.chain_traits.specs.Read.{pointer_of};
+ghost use Rattle.lent.specs.Arenas.{held_in, SameBuffers};
+ghost use Rattle.ptr.specs.Pointers.{pointer_of};
 ghost use Rattle.insert_kinds.specs.Kinds.{insert_kind_of};
 ghost use Rattle.chain_insertion.specs.Inserted.{inserted_reply};
 
 use base_insertion::{insert_between, new_slot};
-use header::CURRENT_GENERATION;
 use insert_check::check_link_insert_kind;
-use insert_kinds::{Coded, LinkInsertKind, kind_of};
-use insert_places::Place;
-use ptr::{Gen, Ptr};
+use insert_kinds::{LinkInsertKind, kind_of};
+use lent::ArenaMut;
+use ptr::{Ptr, Slot};
+use refusals::Refusal;
 
-// What an insertion answers.
-#[derive(Clone, Copy)]
-pub enum Inserted {
-    // The pointer of the new link.
-    Done(Ptr),
-    // The code stands for no kind.
-    UnknownKind,
-    // What the kind asks does not hold.
-    FailedLinkRequirement,
-    // Every slot of the columns is a link.
-    NotWithinCapacity,
-}
-
-impl Inserted {
-    // The number of the answer (REFERENCE, Numbers).
-    pub fn number(self) -> u32
-        ensures { (a : Arena) (l : List ℕ) → result ≡ (inserted_reply self a l).number }
-    {
-        match self {
-            Inserted::Done(_) => 0,
-            Inserted::UnknownKind => 16,
-            Inserted::FailedLinkRequirement => 17,
-            Inserted::NotWithinCapacity => 18,
-        }
-    }
-}
-
-// Inserts a link of payload x where the kind says.
-pub fn insert(
-    prev: &mut [u32],
-    next: &mut [u32],
-    generation: &mut [u32],
-    payload: &mut [u32],
-    header: &mut [u32],
-    kind: LinkInsertKind,
-    x: u32,
-) -> Inserted
-    requires { WellFormed capacity_limit (arena prev.old next.old generation.old payload.old header.old) }
-    ensures { inserted_reply result (arena prev.new next.new generation.new payload.new header.new) []
-        ≡ insert (arena prev.old next.old generation.old payload.old header.old) (insert_kind_of kind) x [] }
+// Inserts a link of payload x where the kind says, and answers its pointer.
+#[tactic(auto, using(crate::proofs::Insertions::by_slot), unfolding(definitions::specs::Insert::insert_at))]
+pub fn insert(arena: &mut ArenaMut<'_>, kind: LinkInsertKind, x: u32) -> Result<Ptr, Refusal>
+    requires { WellFormed capacity_limit (held_in arena.old) }
+    ensures inserted { inserted_reply result (held_in arena.new) [] ≡ insert (held_in arena.old) (insert_kind_of kind) x [] }
+    ensures lent { SameBuffers arena.old arena.new }
 {
-    let g = Gen(header[CURRENT_GENERATION]);
-    let t = new_slot(&*header, prev.len());
-    match check_link_insert_kind(&*prev, &*next, &*generation, &*payload, &*header, t, kind) {
-        Place::Nowhere => Inserted::FailedLinkRequirement,
-        Place::Between(u, v) => {
-            if t.0 == 0 {
-                return Inserted::NotWithinCapacity;
-            }
-            insert_between(prev, next, generation, payload, header, t, u, v, x);
-            Inserted::Done(Ptr {
-                inx: t,
-                generation: g,
-            })
-        }
+    let now = arena.lent().shaped();
+    let generation = now.current_generation();
+    let t = new_slot(now.header, now.capacity());
+    let place = check_link_insert_kind(now, t, kind).ok_or(Refusal::LinkRequirement)?;
+    if t == Slot(0) {
+        return Err(Refusal::NotWithinCapacity);
     }
+    insert_between(arena, t, place.prev, place.next, x);
+    Ok(Ptr { inx: t, generation })
 }
 
 // Inserts a link of payload x where the kind of the code says, with the links at p and q if it names them.
+#[tactic(auto, unfolding(definitions::specs::Insert::insert_coded))]
 pub fn insert_coded(
-    prev: &mut [u32],
-    next: &mut [u32],
-    generation: &mut [u32],
-    payload: &mut [u32],
-    header: &mut [u32],
+    arena: &mut ArenaMut<'_>,
     code: u32,
     p: Ptr,
     q: Ptr,
     x: u32,
-) -> Inserted
-    requires { WellFormed capacity_limit (arena prev.old next.old generation.old payload.old header.old) }
-    ensures { inserted_reply result (arena prev.new next.new generation.new payload.new header.new) []
-        ≡ insert_coded (arena prev.old next.old generation.old payload.old header.old)
-        (kind_of code (pointer_of p) (pointer_of q)) x [] }
+) -> Result<Ptr, Refusal>
+    requires { WellFormed capacity_limit (held_in arena.old) }
+    ensures inserted { inserted_reply result (held_in arena.new) []
+        ≡ insert_coded (held_in arena.old) (kind_of code (pointer_of p) (pointer_of q)) x [] }
+    ensures lent { SameBuffers arena.old arena.new }
 {
-    match kind_of(code, p, q) {
-        Coded::Unknown => Inserted::UnknownKind,
-        Coded::Kind(kind) => insert(prev, next, generation, payload, header, kind, x),
-    }
+    let kind = kind_of(code, p, q).ok_or(Refusal::Command)?;
+    insert(arena, kind, x)
 }

@@ -2,27 +2,25 @@
 use Prim.Native.Nat.{ℕ}
 use mathlib.Core.Path.{◌≡◌, refl}
 use mathlib.Core.Logic.{◌⊎◌, inl, inr}
-use mathlib.Core.Bool.{true, false}
+use mathlib.Core.Bool.{true, not}
 use mathlib.Core.List.{List}
 use native.Mathlib.Decide.{ℕ_discrete}
+use native.Mathlib.Omega.{arith}
 use lib.Dec.{eqb}
+use borrow.Author.Tests.{ne_eqb}
 use Rattle.definitions.specs.Columns.{at}
 use Rattle.definitions.specs.Arena.{Arena, allocated, is_link}
 use Rattle.definitions.specs.Check.{Neighbour, WellFormed}
 use Rattle.definitions.specs.Walk.{Walk, Stepped, onward, step}
 use Rattle.definitions.proofs.Columns.{at_zero}
-use Rattle.definitions.proofs.Slots.{allocated_free}
+use Rattle.definitions.proofs.Slots.{allocated_some, allocated_free}
 use Rattle.definitions.proofs.Tests.{by_test}
 use Rattle.chain_iterators.specs.Walk.{OnChain}
 
--- as the code finds it: gs is the generation column, n the stack length
-module _ (gs : List ℕ) (n : ℕ) {s : ℕ} where
-  pub on_chain_link : (s ≡ 0) ⊎ (allocated gs n s ≡ true) → (s ≡ 0 → ⊥) → allocated gs n s ≡ true
-  on_chain_link (inl z) d = absurd (d z)
-  on_chain_link (inr l) d = l
-
-  pub off_chain : s ≡ 0 → allocated gs n s ≡ false
-  off_chain z = rw z (allocated_free gs n 0 (at_zero gs))
+-- on a chain a position is a link exactly if it is not 0: gs is the generation column, n the stack length
+pub on_chain_link : (gs : List ℕ) (n s : ℕ) → (s ≡ 0) ⊎ (allocated gs n s ≡ true) → not (eqb s 0) ≡ allocated gs n s
+on_chain_link gs n s (inl z) = rw (z, allocated_free gs n 0 (at_zero gs)) refl
+on_chain_link gs n s (inr l) = let some = allocated_some gs n s l in rw (l, ne_eqb s 0 (omega arith)) refl
 
 module _ {limit : ℕ} {a : Arena} (ok : WellFormed limit a) where
   neighbour_on_chain : (back : List ℕ) (x s : ℕ) → Neighbour a back x s → OnChain a s

@@ -1,209 +1,143 @@
-// The walk along a chain (chain/chain_iterators.rs) in an arena that passed the check.
+// The walk along a chain (chain/chain_iterators.rs) in a lent arena.
 #![tactic(auto)]
 
-ghost use Rattle.std.specs.Prelude.{◌≡◌, true, cond, [], ◌-◌, ◌≤◌, ◌<◌, length};
+ghost use Rattle.std.specs.Prelude.{◌≡◌, ◌≢◌, true, cond, [], ◌-◌, ◌≤◌, ◌<◌, length, IfSome};
 ghost use Rattle.definitions.specs.Columns.{at};
-ghost use Rattle.definitions.specs.Arena.{capacity_limit, allocated, is_link};
-ghost use Rattle.definitions.specs.Lent.{lent, at_entry};
+ghost use Rattle.definitions.specs.Arena.{allocated, is_link};
 ghost use Rattle.definitions.specs.Walk.{walk, walk_start, onward, step};
-ghost use Rattle.definitions.proofs.Shaped.{Shaped};
-ghost use Rattle.chain_traits.specs.Read.{pointer_of};
+ghost use Rattle.lent.specs.Arenas.{arena_of};
+ghost use Rattle.ptr.specs.Pointers.{pointer_of};
 ghost use Rattle.chain_iterators.specs.Walk.{walk_of, stepped_of, OnChain, start_reply};
 
-use chain_traits::stale;
+use chain_traits::{is_link, stale};
 use columns::{slot_at, word_at};
-use header::{LINK_COUNT, STACK_LENGTH};
-use ptr::{Ptr, Slot};
+use lent::ArenaRef;
+use ptr::{Gen, Ptr, Slot};
+use refusals::Refusal;
 
 // A walk along one chain. Any words may stand in it: at a position that is no link of the stack the walk is over (REFERENCE, Walk).
 #[derive(Clone, Copy)]
 pub struct ChainPtrAdvancer {
     // where the walk began
-    pub init: u32,
+    pub init: Slot,
     // the slot that the next step answers, 0 where the walk is over
-    pub ptr: u32,
+    pub ptr: Slot,
     // 0 along next, any other along prev
     pub switch: u32,
     // how many more steps may advance
     pub max_advances: u32,
 }
 
-// What a step answers, slot 0 and generation 0 for none, and the next state.
-#[derive(Clone, Copy)]
-pub struct Advanced {
-    pub slot: u32,
-    pub generation: u32,
-    pub state: ChainPtrAdvancer,
-}
-
-// What starting a walk answers.
-#[derive(Clone, Copy)]
-pub enum Started {
-    At(ChainPtrAdvancer),
-    Stale,
-}
-
-// Whether s is a link where the stack is n slots long.
-pub fn is_link(generation: &[u32], n: usize, s: u32) -> bool
-    requires { n ≤ length generation.now }
-    ensures { result ≡ allocated generation.now n s }
-{
-    if s == 0 {
-        return false;
-    }
-    if n < s as usize {
-        return false;
-    }
-    word_at(generation, Slot(s)) != 0
-}
-
 // The prev of the link s; 0 where s is no link.
-pub fn prev_of(prev: &[u32], generation: &[u32], n: usize, s: u32) -> u32
+#[tactic(auto, using(definitions::proofs::Steps::link_slot))]
+pub fn prev_of(prev: &[u32], generation: &[u32], n: usize, s: Slot) -> Slot
     requires { (n ≤ length prev.now) × (n ≤ length generation.now) }
-    ensures { result ≡ cond (allocated generation.now n s) (at prev.now s) 0 }
+    ensures { result.0 ≡ cond (allocated generation.now n s.0) (at prev.now s.0) 0 }
 {
-    if !is_link(generation, n, s) {
-        return 0;
+    if is_link(generation, n, s) {
+        slot_at(prev, s)
+    } else {
+        Slot(0)
     }
-    slot_at(prev, Slot(s)).0
 }
 
 // Starts a walk at p, with as many advances as there are links.
-pub fn advancer_chain(
-    prev: &[u32],
-    next: &[u32],
-    generation: &[u32],
-    payload: &[u32],
-    header: &[u32],
-    p: Ptr,
-) -> Started
-    requires { Shaped capacity_limit (lent prev next generation payload header) }
-    ensures { start_reply result (at_entry prev next generation payload header) []
-        ≡ walk_start (at_entry prev next generation payload header) (pointer_of p) [] }
+#[tactic(auto, using(chain_traits::proofs::Fresh::stale_of), unfolding(definitions::specs::Walk::walk_start))]
+pub fn advancer_chain(arena: ArenaRef<'_>, p: Ptr) -> Result<ChainPtrAdvancer, Refusal>
+    ensures { start_reply result (arena_of arena.entry) []
+        ≡ walk_start (arena_of arena.entry) (pointer_of p) [] }
 {
-    if stale(generation, header[STACK_LENGTH] as usize, p) {
-        return Started::Stale;
+    if stale(arena.generation, arena.stack_length(), p) {
+        return Err(Refusal::StalePointer);
     }
-    Started::At(ChainPtrAdvancer {
-        init: p.inx.0,
-        ptr: p.inx.0,
+    Ok(ChainPtrAdvancer {
+        init: p.inx,
+        ptr: p.inx,
         switch: 0,
-        max_advances: header[LINK_COUNT],
+        max_advances: arena.link_count(),
     })
 }
 
 impl ChainPtrAdvancer {
     // The state one advance later, at another position and in this direction.
-    pub fn moved(self, ptr: u32, switch: u32) -> ChainPtrAdvancer
+    pub fn moved(self, ptr: Slot, switch: u32) -> ChainPtrAdvancer
         requires { 0 < self.max_advances }
-        ensures { walk_of result ≡ walk self.init ptr switch (self.max_advances - 1) }
+        ensures { walk_of result ≡ walk self.init.0 ptr.0 switch (self.max_advances - 1) }
     {
         ChainPtrAdvancer {
-            init: self.init,
-            ptr: ptr,
-            switch: switch,
+            ptr,
+            switch,
             max_advances: self.max_advances - 1,
+            ..self
         }
     }
 
     // The state after the link at the position was answered: on along the direction, at the end of an open chain to the start's prev, and at the
     // start of a closed one to no position.
-    pub fn onward(
-        self,
-        prev: &[u32],
-        next: &[u32],
-        generation: &[u32],
-        payload: &[u32],
-        header: &[u32],
-    ) -> ChainPtrAdvancer
-        requires shaped { Shaped capacity_limit (lent prev next generation payload header) }
-        requires at_link { (is_link (lent prev next generation payload header) self.ptr ≡ true) × (0 < self.max_advances) }
-        ensures { walk_of result ≡ onward (at_entry prev next generation payload header) (walk_of self) }
+    #[tactic(auto, using(definitions::proofs::Steps::link_slot), unfolding(definitions::specs::Walk::onward))]
+    pub fn onward(self, arena: ArenaRef<'_>) -> ChainPtrAdvancer
+        requires { (is_link (arena_of arena) self.ptr.0 ≡ true) × (0 < self.max_advances) }
+        ensures { walk_of result ≡ onward (arena_of arena.entry) (walk_of self) }
     {
-        let here = Slot(self.ptr);
         if self.switch != 0 {
-            return self.moved(slot_at(prev, here).0, self.switch);
+            return self.moved(slot_at(arena.prev, self.ptr), self.switch);
         }
-        let ahead = slot_at(next, here).0;
-        if ahead == 0 {
-            return self.moved(
-                prev_of(prev, generation, header[STACK_LENGTH] as usize, self.init),
-                1,
+        let ahead = slot_at(arena.next, self.ptr);
+        if ahead.0 == 0 {
+            let turned = prev_of(
+                arena.prev,
+                arena.generation,
+                arena.stack_length(),
+                self.init,
             );
+            self.moved(turned, 1)
+        } else if ahead == self.init {
+            self.moved(Slot(0), self.switch)
+        } else {
+            self.moved(ahead, self.switch)
         }
-        if ahead == self.init {
-            return self.moved(0, self.switch);
-        }
-        self.moved(ahead, self.switch)
     }
 
-    // One step: the link at the position, and the state that goes on from there.
-    pub fn advance(
-        self,
-        prev: &[u32],
-        next: &[u32],
-        generation: &[u32],
-        payload: &[u32],
-        header: &[u32],
-    ) -> Advanced
-        requires { Shaped capacity_limit (lent prev next generation payload header) }
-        ensures { stepped_of result ≡ step (at_entry prev next generation payload header) (walk_of self) }
+    // One step, where it is known whether the position is a link: that link, and the state goes on from there.
+    #[tactic(auto, using(definitions::proofs::Steps::link_slot), unfolding(definitions::specs::Walk::step))]
+    fn advance_if(&mut self, arena: ArenaRef<'_>, at_link: bool) -> Option<Ptr>
+        requires { at_link ≡ is_link (arena_of arena) self.old.ptr.0 }
+        ensures step { stepped_of result self.new ≡ step (arena_of arena.entry) (walk_of self.old) }
+        ensures some { IfSome result (λ p. p.inx.0 ≢ 0) }
     {
         if self.max_advances == 0 {
-            return Advanced {
-                slot: 0,
-                generation: 0,
-                state: self,
-            };
+            return None;
         }
-        if !is_link(generation, header[STACK_LENGTH] as usize, self.ptr) {
-            return Advanced {
-                slot: 0,
-                generation: 0,
-                state: self.moved(0, self.switch),
-            };
+        if !at_link {
+            *self = self.moved(Slot(0), self.switch);
+            return None;
         }
-        Advanced {
-            slot: self.ptr,
-            generation: word_at(generation, Slot(self.ptr)),
-            state: self.onward(prev, next, generation, payload, header),
-        }
+        let here = self.ptr;
+        *self = self.onward(arena);
+        Some(Ptr {
+            inx: here,
+            generation: Gen(word_at(arena.generation, here)),
+        })
+    }
+
+    // One step: the link at the position, and the state goes on from there.
+    pub fn advance(&mut self, arena: ArenaRef<'_>) -> Option<Ptr>
+        ensures step { stepped_of result self.new ≡ step (arena_of arena.entry) (walk_of self.old) }
+        ensures some { IfSome result (λ p. p.inx.0 ≢ 0) }
+    {
+        let at_link = is_link(arena.generation, arena.stack_length(), self.ptr);
+        self.advance_if(arena, at_link)
     }
 
     // The same step of a walk that is on a chain, at one of its links or over: it need not ask whether the position is a link, and where
     // nobody looks at the generation that it answers, the compiler leaves that read out.
-    pub fn advance_on_chain(
-        self,
-        prev: &[u32],
-        next: &[u32],
-        generation: &[u32],
-        payload: &[u32],
-        header: &[u32],
-    ) -> Advanced
-        requires shaped { Shaped capacity_limit (lent prev next generation payload header) }
-        requires on_chain { OnChain (lent prev next generation payload header) self.ptr }
-        ensures { stepped_of result ≡ step (at_entry prev next generation payload header) (walk_of self) }
+    #[tactic(auto, using(crate::proofs::Chain::on_chain_link))]
+    pub fn advance_on_chain(&mut self, arena: ArenaRef<'_>) -> Option<Ptr>
+        requires { OnChain (arena_of arena) self.old.ptr.0 }
+        ensures step { stepped_of result self.new ≡ step (arena_of arena.entry) (walk_of self.old) }
+        ensures some { IfSome result (λ p. p.inx.0 ≢ 0) }
     {
-        let left = self.max_advances;
-        let here = self.ptr;
-        if left == 0 {
-            return Advanced {
-                slot: 0,
-                generation: 0,
-                state: self,
-            };
-        }
-        if here == 0 {
-            return Advanced {
-                slot: 0,
-                generation: 0,
-                state: self.moved(0, self.switch),
-            };
-        }
-        Advanced {
-            slot: here,
-            generation: word_at(generation, Slot(here)),
-            state: self.onward(prev, next, generation, payload, header),
-        }
+        let at_link = self.ptr.0 != 0;
+        self.advance_if(arena, at_link)
     }
 }

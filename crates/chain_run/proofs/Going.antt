@@ -14,7 +14,6 @@ use Rattle.definitions.specs.Check.{WellFormed}
 use Rattle.definitions.specs.Columns.{slots_from, written}
 use Rattle.definitions.specs.Reply.{reply}
 use Rattle.definitions.specs.Run.{Command, command_at, command_words, applied, answers_of, run}
-use Rattle.kept.proofs.AsLong.{AsLong, as_long_itself, as_long_too}
 use Rattle.kept.proofs.Runs.{run_goes_on, answers_go_on, an_answer_each, applied_keeps}
 use Rattle.chain_commands.specs.Commands.{Applied}
 use Rattle.chain_run.specs.Ran.{AllApplied}
@@ -35,7 +34,6 @@ pub record Going (top : ℕ) (a₀ : Arena) (ws old : List ℕ) (i : ℕ) (a : A
   pub arena : a ≡ applied top a₀ (first_commands ws i)
   pub answers : told ≡ written (answers_of top a₀ (first_commands ws i)) old
   pub many : length told ≡ length old
-  pub long : AsLong a a₀
 
 module _ (top : ℕ) (a₀ : Arena) (ws old : List ℕ) where
   pub starts : Going top a₀ ws old 0 a₀ old
@@ -45,27 +43,25 @@ module _ (top : ℕ) (a₀ : Arena) (ws old : List ℕ) where
     arena = refl;
     answers = refl;
     many = refl;
-    long = as_long_itself a₀;
   }
 
   -- each arena on the way is well formed
   pub passes : (limit i : ℕ) (a : Arena) (told : List ℕ) → WellFormed limit a₀ → Going top a₀ ws old i a told → WellFormed limit a
   passes limit i a told ok g = rw g.arena (applied_keeps limit top a₀ ok (first_commands ws i))
 
-  pub goes_on : (i : ℕ) (a : Arena) (told : List ℕ) (c : Command) (r : ℕ) (b : Arena) → Going top a₀ ws old i a told → i < length ws / command_words → length ws / command_words ≤ length old
-      → c ≡ command_at ws i → Applied top a c r b → AsLong b a → Going top a₀ ws old (i + 1) b (set told i r)
+  pub goes_on : (i : ℕ) (a : Arena) (told : List ℕ) (r : ℕ) (b : Arena) → Going top a₀ ws old i a told → i < length ws / command_words → length ws / command_words ≤ length old
+      → Applied top a (command_at ws i) r b → Going top a₀ ws old (i + 1) b (set told i r)
   unfolding applied answers_of
-  goes_on i a told c r b g l room e s m =
+  goes_on i a told r b g l room s =
       let before = answers_of top a₀ (first_commands ws i) in
       let count : length before ≡ i = an_answer_each top a₀ (first_commands ws i) ∙ how_many ws i in
       record {
         within = omega arith;
-        arena = s.arena ∙ rw (one_more ws i, run_goes_on top a₀ (first_commands ws i) (command_at ws i ∷ []), ← g.arena, e) refl;
+        arena = s.arena ∙ rw (one_more ws i, run_goes_on top a₀ (first_commands ws i) (command_at ws i ∷ []), ← g.arena) refl;
         answers =
-            rw (one_more ws i, answers_go_on top a₀ (first_commands ws i) (command_at ws i ∷ []), ← g.arena, ← e, ← s.answer, g.answers)
+            rw (one_more ws i, answers_go_on top a₀ (first_commands ws i) (command_at ws i ∷ []), ← g.arena, ← s.answer, g.answers)
             (written_more before old i (r ∷ []) count (omega arith));
         many = length-set told i r ∙ g.many;
-        long = as_long_too m g.long;
       }
 
   pub ends : (i : ℕ) (a : Arena) (told : List ℕ) → Going top a₀ ws old i a told → i ≡ length ws / command_words → AllApplied top a₀ ws old a told

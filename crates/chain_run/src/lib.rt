@@ -1,92 +1,69 @@
 // A run of edits on an arena that passed the check.
 #![tactic(auto)]
 
-ghost use Rattle.std.specs.Prelude.{◌≡◌, ◌/◌, ◌≤◌, length};
-ghost use Rattle.definitions.specs.Arena.{capacity_limit, largest_generation, arena};
+ghost use Rattle.std.specs.Prelude.{◌≡◌, ◌/◌, ◌+◌, ◌*◌, ◌≤◌, length};
+ghost use Rattle.definitions.specs.Arena.{capacity_limit, largest_generation};
 ghost use Rattle.definitions.specs.Check.{WellFormed};
-ghost use Rattle.definitions.specs.Run.{command_words, run};
-ghost use Rattle.chain_run.specs.Ran.{AllApplied, ran_number, ran_reply};
+ghost use Rattle.definitions.specs.Run.{command_words, command_at, run};
+ghost use Rattle.lent.specs.Arenas.{held_in, SameBuffers};
+ghost use Rattle.chain_commands.specs.Commands.{Applied, command_number};
+ghost use Rattle.chain_run.specs.Ran.{AllApplied, ran_reply};
 
 use chain_commands::{COMMAND_WORDS, apply, command_at};
+use lent::ArenaMut;
+use ptr::InvalidationOption;
+use refusals::Refusal;
 
-// Applies the commands one after the other, and writes an answer for each.
-pub fn apply_all(
-    prev: &mut [u32],
-    next: &mut [u32],
-    generation: &mut [u32],
-    payload: &mut [u32],
-    header: &mut [u32],
+// Applies command i, from 0, of the words.
+fn apply_at(
+    arena: &mut ArenaMut<'_>,
     commands: &[u32],
-    answers: &mut [u32],
-)
-    requires well_formed { WellFormed capacity_limit (arena prev.old next.old generation.old payload.old header.old) }
-    requires room { length commands.now / command_words ≤ length answers.old }
-    ensures { AllApplied largest_generation
-        (arena prev.old next.old generation.old payload.old header.old)
-        commands.now answers.old
-        (arena prev.new next.new generation.new payload.new header.new) answers.new }
+    i: usize,
+) -> Result<InvalidationOption, Refusal>
+    requires well_formed { WellFormed capacity_limit (held_in arena.old) }
+    requires whole { command_words * i + command_words ≤ length commands.now }
+    ensures lent { SameBuffers arena.old arena.new }
+    ensures applied { Applied largest_generation (held_in arena.old) (command_at commands.now i) (command_number result) (held_in arena.new) }
 {
-    let n = commands.len() / COMMAND_WORDS;
-    let mut i: usize = 0;
-    while i < n {
-        let c = command_at(commands, i);
-        let answer = apply(
-            &mut *prev,
-            &mut *next,
-            &mut *generation,
-            &mut *payload,
-            &mut *header,
-            c,
-        );
-        answers[i] = answer;
-        i += 1;
+    apply(arena, command_at(commands, i))
+}
+
+// The answer word of a command (REFERENCE, Run).
+fn answer_word(done: Result<InvalidationOption, Refusal>) -> u32
+    ensures { result ≡ command_number done }
+{
+    match done {
+        Ok(option) => option.number(),
+        Err(refusal) => refusal.number(),
     }
 }
 
-// What a run answers.
-#[derive(Clone, Copy)]
-pub enum Ran {
-    Done,
-    // The last command lacks words.
-    Incomplete,
-    // Not every command has an answer word.
-    TooFewAnswers,
-}
-
-impl Ran {
-    // The number of the answer (REFERENCE, Numbers).
-    pub fn number(self) -> u32
-        ensures { result ≡ ran_number self }
-    {
-        match self {
-            Ran::Done => 0,
-            Ran::Incomplete => 16,
-            Ran::TooFewAnswers => 14,
-        }
+// Applies the commands one after the other, and writes an answer for each.
+pub fn apply_all(arena: &mut ArenaMut<'_>, commands: &[u32], answers: &mut [u32])
+    requires well_formed { WellFormed capacity_limit (held_in arena.old) }
+    requires room { length commands.now / command_words ≤ length answers.old }
+    ensures lent { SameBuffers arena.old arena.new }
+    ensures applied { AllApplied largest_generation (held_in arena.old) commands.now answers.old (held_in arena.new) answers.new }
+{
+    let n = commands.len() / COMMAND_WORDS;
+    for i in 0..n {
+        answers[i] = answer_word(apply_at(arena, commands, i));
     }
 }
 
 // Runs the commands, if they are whole and there is an answer word for each.
-pub fn run(
-    prev: &mut [u32],
-    next: &mut [u32],
-    generation: &mut [u32],
-    payload: &mut [u32],
-    header: &mut [u32],
-    commands: &[u32],
-    answers: &mut [u32],
-) -> Ran
-    requires { WellFormed capacity_limit (arena prev.old next.old generation.old payload.old header.old) }
-    ensures { ran_reply result (arena prev.new next.new generation.new payload.new header.new) answers.new
-        ≡ run largest_generation (arena prev.old next.old generation.old payload.old header.old)
-        commands.now answers.old }
+#[tactic(auto, using(crate::proofs::Going::ran), unfolding(definitions::specs::Run::run))]
+pub fn run(arena: &mut ArenaMut<'_>, commands: &[u32], answers: &mut [u32]) -> Result<(), Refusal>
+    requires { WellFormed capacity_limit (held_in arena.old) }
+    ensures lent { SameBuffers arena.old arena.new }
+    ensures ran { ran_reply result (held_in arena.new) answers.new ≡ run largest_generation (held_in arena.old) commands.now answers.old }
 {
     if commands.len() % COMMAND_WORDS != 0 {
-        return Ran::Incomplete;
+        return Err(Refusal::Command);
     }
     if answers.len() < commands.len() / COMMAND_WORDS {
-        return Ran::TooFewAnswers;
+        return Err(Refusal::SliceLength);
     }
-    apply_all(prev, next, generation, payload, header, commands, answers);
-    Ran::Done
+    apply_all(arena, commands, answers);
+    Ok(())
 }

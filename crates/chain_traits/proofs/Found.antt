@@ -6,6 +6,7 @@ use mathlib.Core.List.{List, [], ◌∷◌}
 use native.Mathlib.Omega.{arith}
 use native.Mathlib.Decide.{ℕ_discrete}
 use lib.ListN.{length, get_or}
+use Rattle.std.specs.Prelude.{Some, None}
 use Rattle.definitions.specs.Columns.{at}
 use Rattle.definitions.specs.Arena.{Arena, stack_length, is_link}
 use Rattle.definitions.specs.Check.{verdict, names_back}
@@ -16,10 +17,9 @@ use Rattle.definitions.proofs.Slots.{allocated_within, allocated_some}
 use Rattle.definitions.proofs.Shaped.{shaped, passed_links}
 use Rattle.definitions.proofs.Interlinks.{names_back_lem, fine_parts, each_fine}
 use Rattle.ptr.specs.declared.Ptr.{Ptr}
+use Rattle.ptr.specs.Pointers.{pointer_of}
 use Rattle.links.specs.declared.LinkNoGen.{LinkNoGen}
-use Rattle.chain_traits.specs.declared.GotLink.TheVariants.{Found, Stale}
-use Rattle.chain_traits.specs.declared.GotLinkNoGen.TheVariants.{Found as FoundNoGen, Stale as StaleNoGen}
-use Rattle.chain_traits.specs.Read.{pointer_of, link_reply, link_no_gen_reply}
+use Rattle.chain_traits.specs.Read.{link_reply, link_no_gen_reply}
 use Rattle.chain_traits.proofs.Fresh.{fresh_link}
 
 -- the link l that was found at p: p is not stale, and l has its words
@@ -29,7 +29,7 @@ pub record FoundAt (a : Arena) (p : Pointer) (l : LinkNoGen) : Type 0 where
   pub next : l.next.0 ≡ at a.next p.slot
   pub payload : l.t ≡ at a.payload p.slot
 
-pub found : (a : Arena) (p : Pointer) (l : LinkNoGen) → link_no_gen_reply (FoundNoGen l) a [] ≡ get_link_no_gen a p [] → FoundAt a p l
+pub found : (a : Arena) (p : Pointer) (l : LinkNoGen) → link_no_gen_reply (Some l) a [] ≡ get_link_no_gen a p [] → FoundAt a p l
 unfolding get_link_no_gen
 found a p l e =
     by_test (stale a p)
@@ -44,14 +44,14 @@ found a p l e =
     })
 
 -- found with its neighbours' generations, it is what get_link answers
-pub found_link : (a : Arena) (p : Pointer) (l : LinkNoGen) (before after : Ptr) → FoundAt a p l → pointer_of before ≡ pointer l.prev.0 (at a.generation l.prev.0) → pointer_of after ≡ pointer l.next.0 (at a.generation l.next.0) → link_reply (Found (record { prev = before; next = after; t = l.t })) a [] ≡ get_link a p []
+pub found_link : (a : Arena) (p : Pointer) (l : LinkNoGen) (before after : Ptr) → FoundAt a p l → pointer_of before ≡ pointer l.prev.0 (at a.generation l.prev.0) → pointer_of after ≡ pointer l.next.0 (at a.generation l.next.0) → link_reply (Some (record { prev = before; next = after; t = l.t })) a [] ≡ get_link a p []
 unfolding get_link
 found_link a p l before after f e g =
     rw (f.fresh, ← f.prev, ← f.next, ← f.payload)
     (ap₂ (λ (b c : Pointer). reply 0 (b.slot ∷ b.generation ∷ c.slot ∷ c.generation ∷ l.t ∷ []) a []) e g)
 
 -- nothing was found at a stale pointer
-pub none_found : (a : Arena) (p : Pointer) → link_no_gen_reply StaleNoGen a [] ≡ get_link_no_gen a p [] → link_reply Stale a [] ≡ get_link a p []
+pub none_found : (a : Arena) (p : Pointer) → link_no_gen_reply None a [] ≡ get_link_no_gen a p [] → link_reply None a [] ≡ get_link a p []
 unfolding get_link get_link_no_gen
 none_found a p e =
     by_test (stale a p)

@@ -10,10 +10,10 @@ use native.Mathlib.Decide.{dec_le}
 use lib.ListN.{length, get_or, take, drop, replicate, length-append, length-take, length-replicate, length-set, take-append-drop}
 use lib.Seq.{get_or-set_same, get_or-set_other, set-get_or, length-take-le}
 use Rattle.definitions.specs.Columns.{at, settled}
-use Rattle.definitions.specs.Arena.{Arena, arena, capacity_limit, capacity, stack_length, link_count, with_stack_length, with_link_count, with_root, with_current, is_link}
+use Rattle.definitions.specs.Arena.{Arena, arena, capacity_limit, capacity, stack_length, link_count, with_stack_length, with_link_count, with_root, with_current, with_header, is_link}
 use Rattle.definitions.specs.Check.{WellFormed, verdict}
 use Rattle.definitions.specs.Reply.{reply}
-use Rattle.definitions.specs.Compress.{Laying, laid_out, compress_generation, compressed_header, canonical_arena, compress_canonical}
+use Rattle.definitions.specs.Compress.{Laying, laid_out, raises, compress_generation, compress_number, compressed_header, canonical_arena, compress_canonical}
 use Rattle.definitions.proofs.Tests.{by_test, not_eq, not_ne}
 use Rattle.definitions.proofs.Slots.{links_and_free}
 use Rattle.definitions.proofs.Parts.{at_take, at_append_left, at_append_right, same_words}
@@ -25,10 +25,10 @@ use Rattle.demand3.proofs.Loops.{between_end, end_links, end_only}
 use Rattle.base_freelist.specs.Popped.{popped}
 use Rattle.base_freelist.proofs.Settled.{settled_over}
 use Rattle.compress_moves.specs.Moves.{Renewed}
-use Rattle.canonical_exchange.specs.Lent.{Lent, front}
+use Rattle.canonical_exchange.specs.Lent.{Lent, lent, front}
 use Rattle.canonical_layout.specs.Held.{Held}
 use Rattle.canonical_layout.specs.Steps.{Stacked, LaidIn}
-use Rattle.compress_canonical.specs.Shrunk.{shrunk, Shrinkable}
+use Rattle.compress_moves.specs.Shrunk.{shrunk, Shrinkable}
 
 at_zeros : (k s : ℕ) → at (replicate k 0) s ≡ 0
 unfolding at
@@ -190,17 +190,28 @@ pub refused : (top : ℕ) (reset : Bool) (a : Arena) (where_from : List ℕ) →
 unfolding compress_canonical
 refused top reset a where_from d = rw (not_ne (length where_from) (capacity a) d) refl
 
-module _ {top : ℕ} {reset : Bool} {a : Arena} {where_from : List ℕ} {c : Lent} {k : ℕ} {h : List ℕ} (passed : verdict capacity_limit a ≡ 0) (laid : LaidIn a where_from c) (renewed : Renewed top reset a k h) where
-  abbrev g : ℕ
-  g = compress_generation top reset a
+-- the generation is renewed as in an arena with the same header
+renewed_alike : {top : ℕ} {reset : Bool} {a b : Arena} {k : ℕ} {h : List ℕ} → b.header ≡ a.header → Renewed top reset b k h → Renewed top reset a k h
+unfolding raises compress_generation compress_number
+renewed_alike e r = record { number = rw (← e) r.number; header = rw (← e) r.header }
 
-  pub shrinkable : Shrinkable (arena c.prev c.next a.generation c.payload h)
-  shrinkable = can_shrink capacity_limit a (well_formed_if_passes capacity_limit a passed) where_from c laid g h renewed.header
+-- a is laid out, in the arena b, which is then in the new generation, and is the arena d
+module _ {top : ℕ} {reset : Bool} {a b d : Arena} {k : ℕ} (where_from ws : List ℕ) (passed : verdict capacity_limit a ≡ 0) (laid : LaidIn a where_from (lent b.prev b.next b.payload ws))
+    (others : (b.generation ≡ a.generation) × (b.header ≡ a.header)) (renewed : Renewed top reset b k d.header) (in_new : d ≡ with_header b d.header) where
+  now_renewed : Renewed top reset a k d.header
+  now_renewed = renewed_alike others.1 renewed
 
-  pub compressed : {left : Arena} → length where_from ≡ capacity a → left ≡ shrunk (arena c.prev c.next a.generation c.payload h) →
-      reply k [] left c.where_from ≡ compress_canonical top reset a where_from
+  parts : d ≡ arena b.prev b.next a.generation b.payload d.header
+  parts = rw (← others.0) in_new
+
+  pub shrinkable : Shrinkable d
+  shrinkable =
+      rw parts (can_shrink capacity_limit a (well_formed_if_passes capacity_limit a passed) where_from (lent b.prev b.next b.payload ws) laid (compress_generation top reset a) d.header now_renewed.header)
+
+  pub compressed : {left : Arena} → length where_from ≡ capacity a → left ≡ shrunk d → reply k [] left ws ≡ compress_canonical top reset a where_from
   unfolding compress_canonical
   compressed e shrinks =
       let ok = well_formed_if_passes capacity_limit a passed in
-      rw (not_eq (length where_from) (capacity a) e, renewed.number, shrinks, shrunk_canonical capacity_limit a ok where_from c laid g h renewed.header, where_from_settled capacity_limit a ok where_from c laid)
+      let c = lent b.prev b.next b.payload ws in
+      rw (not_eq (length where_from) (capacity a) e, now_renewed.number, shrinks, parts, shrunk_canonical capacity_limit a ok where_from c laid (compress_generation top reset a) d.header now_renewed.header, where_from_settled capacity_limit a ok where_from c laid)
       refl

@@ -1,4 +1,3 @@
 pub mod Marks
 pub mod Stack
-pub mod Shrinks
 pub mod Canonical

@@ -8,34 +8,23 @@ use native.Mathlib.Omega.{arith}
 use native.Mathlib.Numerals.{add-one}
 use native.Mathlib.Decide.{ℕ_discrete}
 use lib.Dec.{eqb}
-use lib.ListN.{length, get_or, set, length-set}
+use lib.ListN.{length, get_or, set}
 use borrow.Author.Tests.{eq-eqb, ne_eqb}
 use Rattle.definitions.specs.Columns.{at, put}
 use Rattle.definitions.proofs.Columns.{at_zero, at_suc, at_put_same, at_put_other}
 use Rattle.canonical_layout.specs.Held.{Marked}
 
--- the slots up to s are marked
-pub record Marking (gs old ws : List ℕ) (s : ℕ) : Type 0 where
-  pub within : s ≤ length ws
-  pub long : length ws ≡ length old
-  pub room : length ws ≡ length gs
-  pub marked : Marked gs s ws
-
-pub marking_starts : (gs ws : List ℕ) → length ws ≡ length gs → Marking gs ws ws 0
-marking_starts gs ws e = record { within = omega arith; long = refl; room = e; marked = record { link = λ s h d. absurd (d (none s h gs)); free = λ s h z. none s h ws } }
+pub marking_starts : (gs ws : List ℕ) → Marked gs 0 ws
+marking_starts gs ws = record { link = λ s h d. absurd (d (none s h gs)); free = λ s h z. none s h ws }
   where
     none : (s : ℕ) → s ≤ 0 → (xs : List ℕ) → at xs s ≡ 0
     none zero h xs = at_zero xs
     none (suc s) h xs = absurd (omega arith)
 
-pub marking_goes_on : {gs old ws : List ℕ} {s v : ℕ} → Marking gs old ws s → s < length ws → v ≡ cond (eqb (get_or gs s 0) 0) 0 (s + 1) → Marking gs old (set ws s v) (s + 1)
-marking_goes_on {gs} {old} {ws} {s} {v} m h e =
-    record {
-      within = rw (length-set ws s v) (omega arith);
-      long = length-set ws s v ∙ m.long;
-      room = length-set ws s v ∙ m.room;
-      marked = record { link = λ x l d. link x l d (ℕ_discrete x (suc s)); free = λ x l z. free x l z (ℕ_discrete x (suc s)) };
-    }
+-- one slot more is marked
+pub marking_goes_on : {gs ws : List ℕ} {s v : ℕ} → Marked gs s ws → s < length ws → v ≡ cond (eqb (get_or gs s 0) 0) 0 (s + 1) → Marked gs (s + 1) (set ws s v)
+marking_goes_on {gs} {ws} {s} {v} m h e =
+    record { link = λ x l d. link x l d (ℕ_discrete x (suc s)); free = λ x l z. free x l z (ℕ_discrete x (suc s)) }
   where
     here : at (set ws s v) (suc s) ≡ v
     here = unfold put in at_put_same ws (suc s) v (λ z. omega arith) h
@@ -45,11 +34,8 @@ marking_goes_on {gs} {old} {ws} {s} {v} m h e =
 
     link : (x : ℕ) → x ≤ s + 1 → at gs x ≢ 0 → Dec (x ≡ suc s) → at (set ws s v) x ≡ x
     link x l d (yes q) = rw q (here ∙ (e ∙ rw (ne_eqb (get_or gs s 0) 0 (λ z. d (ap (at gs) q ∙ (at_suc gs s ∙ z)))) (add-one s)))
-    link x l d (no q) = elsewhere x q ∙ m.marked.link x (omega arith) d
+    link x l d (no q) = elsewhere x q ∙ m.link x (omega arith) d
 
     free : (x : ℕ) → x ≤ s + 1 → at gs x ≡ 0 → Dec (x ≡ suc s) → at (set ws s v) x ≡ 0
     free x l z (yes q) = rw q (here ∙ (e ∙ rw (eq-eqb (get_or gs s 0) 0 (sym (at_suc gs s) ∙ (ap (at gs) (sym q) ∙ z))) refl))
-    free x l z (no q) = elsewhere x q ∙ m.marked.free x (omega arith) z
-
-pub all_marked : {gs old ws : List ℕ} {s : ℕ} → Marking gs old ws s → length ws ≤ s → Marked gs (length gs) ws
-all_marked {gs} {old} {ws} {s} m h = let e : s ≡ length gs = omega (arith, m.within, m.room) in rw e at m.marked
+    free x l z (no q) = elsewhere x q ∙ m.free x (omega arith) z

@@ -24,32 +24,29 @@ module _ {a : Arena} {where_from : List ℕ} (stacked : Stacked a where_from) wh
   n = stack_length a
 
   -- the parts that are lent are as long as the stack
-  pub prev_part : stack_length a ≡ length (take (stack_length a) a.prev)
+  prev_part : stack_length a ≡ length (take (stack_length a) a.prev)
   prev_part = sym (length-take-le n a.prev stacked.layable.room.prev)
 
-  pub next_part : stack_length a ≡ length (take (stack_length a) a.next)
+  next_part : stack_length a ≡ length (take (stack_length a) a.next)
   next_part = sym (length-take-le n a.next stacked.layable.room.next)
 
-  pub generation_part : stack_length a ≡ length (take (stack_length a) a.generation)
-  generation_part = sym (length-take-le n a.generation stacked.layable.room.generation)
-
-  pub payload_part : stack_length a ≡ length (take (stack_length a) a.payload)
+  payload_part : stack_length a ≡ length (take (stack_length a) a.payload)
   payload_part = sym (length-take-le n a.payload stacked.layable.room.payload)
 
-  pub from_part : stack_length a ≡ length (take (stack_length a) where_from)
+  from_part : stack_length a ≡ length (take (stack_length a) where_from)
   from_part = sym (length-take-le n where_from stacked.room)
 
   -- ---- once the links are marked
 
   module _ {ws : List ℕ} (long : length ws ≡ length (take (stack_length a) where_from))
-      (marked : Marked (take (stack_length a) a.generation) (length (take (stack_length a) a.generation)) ws) where
+      (marked : Marked a.generation (length (take (stack_length a) where_from)) ws) where
     ws_long : length ws ≡ n
     ws_long = long ∙ sym from_part
 
     ws_front : take n (ws ++ drop n where_from) ≡ ws
     ws_front = take_at ws (drop n where_from) n ws_long
 
-    pub marked_part : stack_length a ≡ length (take (stack_length a) (ws ++ drop (stack_length a) where_from))
+    marked_part : stack_length a ≡ length (take (stack_length a) (ws ++ drop (stack_length a) where_from))
     marked_part = sym ws_long ∙ ap length (sym ws_front)
 
     -- every link is in its own slot
@@ -70,16 +67,11 @@ module _ {a : Arena} {where_from : List ℕ} (stacked : Stacked a where_from) wh
           };
         }
       where
-        generation_at : (s : ℕ) → s ≤ n → at (take n a.generation) s ≡ at a.generation s
-        generation_at s l = at_take n a.generation s l
-
         own : (s : ℕ) → is_link a s ≡ true → at ws s ≡ at (slots_from 1 n) s
-        own s h =
-            let l = link_within a s h in
-            marked.link s (omega (arith, generation_part)) (λ z. allocated_live a.generation n s h (sym (generation_at s l) ∙ z)) ∙ sym (at_own n s l)
+        own s h = let l = link_within a s h in marked.link s (omega (arith, from_part)) (allocated_live a.generation n s h) ∙ sym (at_own n s l)
 
         none : (s : ℕ) → is_link a s ≡ false → Dec (s ≤ n) → at ws s ≡ 0
-        none s h (yes l) = marked.free s (omega (arith, generation_part)) (generation_at s l ∙ not_allocated a.generation n s h l)
+        none s h (yes l) = marked.free s (omega (arith, from_part)) (not_allocated a.generation n s h l)
         none s h (no l) = at_past ws s (omega (arith, ws_long))
 
     -- ---- once they are laid out

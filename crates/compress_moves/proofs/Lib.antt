@@ -3,3 +3,4 @@ pub mod Numbers
 pub mod Renewing
 pub mod Names
 pub mod Moving
+pub mod Shrinks

@@ -10,10 +10,13 @@ use native.Mathlib.Decide.{ℕ_discrete}
 use lib.ListN.{length, get_or, set, take, drop, length-append, length-map, length-set, length-take}
 use lib.Seq.{sets, sets-eq, length-sets, set-get_or, take_at, take-set-le, drop-set-lt}
 use Rattle.definitions.specs.Columns.{at, slots_from, keep, written}
-use Rattle.definitions.specs.Arena.{Arena, allocated, link_slots}
+use Rattle.definitions.specs.Arena.{Arena, capacity_limit, allocated, link_slots}
 use Rattle.definitions.specs.Compress.{place, moves_of}
+use Rattle.definitions.specs.Read.{Pointer, pointer}
 use Rattle.definitions.proofs.Columns.{at_suc}
 use Rattle.definitions.proofs.Slots.{allocated_yes, allocated_free, slots_snoc, length_slots, keep_append}
+use Rattle.ptr.specs.declared.Ptr.{Ptr}
+use Rattle.ptr.specs.Pointers.{pointer_of}
 use Rattle.renaming.proofs.CompressWith.{moves_read}
 use Rattle.compress_moves.specs.Moves.{numbered, Numbered}
 use Rattle.definitions.proofs.Written.{written_none, written_more, written_kept, written_behind, written_parts}
@@ -85,6 +88,17 @@ pub record Numbering (a : Arena) (n g links : ℕ) (old : List ℕ) (i count : �
 -- the words that are reported of slot i + 1
 abbrev pub report_words : ℕ → ℕ → ℕ → ℕ → List ℕ
 report_words i count generation g = (i + 1) ∷ generation ∷ (count + 1) ∷ g ∷ []
+
+-- those words, as the code tells them: the words of two pointers
+pub words_told : (report : List ℕ) (i count generation g : ℕ) {p q : Ptr} {told : List ℕ}
+    → told ≡ sets report (4 * count) (p.inx.0 ∷ p.generation.0 ∷ q.inx.0 ∷ q.generation.0 ∷ [])
+    → pointer_of p ≡ pointer (i + 1) generation
+    → pointer_of q ≡ pointer (count + 1) g
+    → told ≡ sets report (4 * count) (report_words i count generation g)
+words_told report i count generation g {p} {q} is e f =
+    let words : p.inx.0 ∷ p.generation.0 ∷ q.inx.0 ∷ q.generation.0 ∷ [] ≡ report_words i count generation g =
+    rw (ap (λ (x : Pointer). x.slot) e, ap (λ (x : Pointer). x.generation) e, ap (λ (x : Pointer). x.slot) f, ap (λ (x : Pointer). x.generation) f) refl in
+    is ∙ ap (sets report (4 * count)) words
 
 pub numbering_starts : (a : Arena) (n g links : ℕ) (old : List ℕ) → Numbering a n g links old 0 0 a.generation old
 unfolding keep slots_from moves_of
@@ -196,6 +210,16 @@ module _ {a : Arena} {n g links : ℕ} {old : List ℕ} {i count : ℕ} {numbers
           numbers_length = length-set numbers i (count + 1) ∙ r.numbers_length;
           report_length = length-sets report (4 * count) words ∙ r.report_length;
         }
+
+-- while links are left there is room for one more, in the column and in the report
+pub numbering_room : {a : Arena} {g links : ℕ} {old : List ℕ} {i count : ℕ} {numbers report : List ℕ}
+    → (n : ℕ) × (n ≤ capacity_limit) × (n ≤ length a.generation) × (links ≡ length (link_slots a.generation n)) × (4 * links ≤ length old)
+    → ((n : ℕ) → n ≤ length a.generation → links ≡ length (link_slots a.generation n) → Numbering a n g links old i count numbers report)
+    → count < links → (i < length numbers) × (i < length a.generation) × (i < capacity_limit) × (count ≤ i) × (4 * count + 4 ≤ length report)
+numbering_room (n, small, h, e, room) so_far more =
+    let r = so_far n h e in
+    let left = numbering_within r e more in
+    (omega (arith, r.numbers_length), omega arith, omega arith, r.few, omega (arith, r.report_length))
 
 module _ {a : Arena} {n g links : ℕ} {old : List ℕ} (e : links ≡ length (link_slots a.generation n)) (l : n ≤ length a.generation) where
   -- once every link is numbered, the slots left are free

@@ -1,135 +1,158 @@
-// The steps of order-preserving compression: the links are numbered by their new slots, moved down, and get the new generation.
+// The steps of the compressions. Of the order-preserving one: the links are numbered by their new slots and moved down; meanwhile the generation column holds each
+// link's new slot. Of both: the generation is renewed, and in the end the slots after the links are popped.
 #![tactic(auto)]
 
 ghost use Rattle.std.specs.Prelude.{◌≡◌, List, [], ◌∷◌, ◌++◌, ℕ, ◌+◌, ◌*◌, ◌≤◌, ◌<◌, length, set, drop, replicate};
 ghost use Rattle.std.proofs.lemmas.List.Edits.{sets};
-ghost use Rattle.definitions.specs.Columns.{at, written};
-ghost use Rattle.definitions.specs.Arena.{arena, capacity_limit, largest_generation, header_words, link_slots};
+ghost use Rattle.definitions.specs.Columns.{at};
+ghost use Rattle.definitions.specs.Arena.{arena, capacity_limit, largest_generation, header_words, stack_length, link_count, link_slots, with_header};
+ghost use Rattle.lent.specs.Arenas.{held_in, SameBuffers};
 ghost use Rattle.ptr.specs.Extra.{invalidation_number};
-ghost use Rattle.compress_moves.specs.Moves.{Renewed, Numbered, new_name, Movable, carried};
+ghost use Rattle.compress_moves.specs.Moves.{Renewed, Numbered, new_name, moved_link, Movable, moved_down};
+ghost use Rattle.compress_moves.specs.Shrunk.{Shrinkable, shrunk};
 
-use base_freelist::inc_generation;
-use header::{CURRENT_GENERATION, LINK_COUNT};
-use ptr::{Gen, InvalidationOption};
+use base_freelist::{inc_generation, pop_slots};
+use columns::{slot_at, word_at};
+use header::{CURRENT_GENERATION, LINK_COUNT, ROOT, STACK_LENGTH};
+use lent::ArenaMut;
+use links::LinkNoGen;
+use ptr::{Gen, InvalidationOption, Ptr, Slot};
 
 // The generation of a compression: 2 with reset, else one step on, but the same where there is no link. Answers whether the step overflowed.
-pub fn renew_generation(header: &mut [u32], reset: bool) -> InvalidationOption
-    requires { length header.old ≡ header_words }
-    ensures { (ps ns gs vs : List ℕ) → Renewed largest_generation reset (arena ps ns gs vs header.old) (invalidation_number result) header.new }
+pub fn renew_generation(arena: &mut ArenaMut<'_>, reset: bool) -> InvalidationOption
+    requires { length arena.old.header.now ≡ header_words }
+    ensures renewed { Renewed largest_generation reset (held_in arena.old) (invalidation_number result) arena.new.header.now }
+    ensures others { held_in arena.new ≡ with_header (held_in arena.old) arena.new.header.now }
+    ensures lent { SameBuffers arena.old arena.new }
 {
     if reset {
-        let two = Gen::TWO;
-        header[CURRENT_GENERATION] = two.0;
+        arena.header[CURRENT_GENERATION] = Gen::TWO.0;
         return InvalidationOption::Success;
     }
-    if header[LINK_COUNT] != 0 {
-        return inc_generation(header);
+    if arena.header[LINK_COUNT] != 0 {
+        return inc_generation(arena.header);
     }
     InvalidationOption::Success
 }
 
-// Writes the four words of a link behind those of count links: the slot and the generation that it had, and those that it gets.
-pub fn tell_move(report: &mut [u32], count: usize, slot: u32, old: u32, new: u32)
+// Writes the four words of a link behind those of count links: the pointer that it had, and the one that it gets.
+pub fn tell_move(report: &mut [u32], count: usize, old: Ptr, new: Ptr)
     requires { (count < capacity_limit) × (4 * count + 4 ≤ length report.old) }
-    ensures { report.new ≡ sets report.old (4 * count) (slot ∷ old ∷ (count + 1) ∷ new ∷ []) }
+    ensures { report.new ≡ sets report.old (4 * count) (old.inx.0 ∷ old.generation.0 ∷ new.inx.0 ∷ new.generation.0 ∷ []) }
 {
     let w = 4 * count;
-    report[w] = slot;
-    report[w + 1] = old;
-    report[w + 2] = (count + 1) as u32;
-    report[w + 3] = new;
+    report[w] = old.inx.0;
+    report[w + 1] = old.generation.0;
+    report[w + 2] = new.inx.0;
+    report[w + 3] = new.generation.0;
 }
 
-// Reports the links of a stack of n slots, in slot order, and puts each one's new slot where its generation was. While links are left, what is
-// reported of a free slot is written over by the next link.
-pub fn number_links(generation: &mut [u32], report: &mut [u32], n: usize, links: usize, new: u32)
-    requires { (n ≤ capacity_limit) × (n ≤ length generation.old) × (links ≡ length (link_slots generation.old n)) × (4 * links ≤ length report.old) }
-    ensures { (ps ns vs h : List ℕ) → Numbered (arena ps ns generation.old vs h) n new report.old generation.new report.new }
+// Reports the links of a stack that this generation column has, so many in all, in slot order, and puts each one's new slot where its generation was. While links
+// are left, what is reported of a free slot is written over by the next link.
+pub fn number_links(generation: &mut [u32], report: &mut [u32], links: usize, new: Gen)
+    requires { (n : ℕ) × (n ≤ capacity_limit) × (n ≤ length generation.old) × (links ≡ length (link_slots generation.old n)) × (4 * links ≤ length report.old) }
+    ensures { (n : ℕ) → n ≤ length generation.old → links ≡ length (link_slots generation.old n) →
+        (ps ns vs h : List ℕ) → Numbered (arena ps ns generation.old vs h) n new.0 report.old generation.new report.new }
 {
     let mut count: usize = 0;
     let mut i: usize = 0;
     while count < links {
         let old = generation[i];
-        tell_move(&mut *report, count, (i + 1) as u32, old, new);
-        let mut number: u32 = 0;
-        if old != 0 {
+        let place = (count + 1) as u32;
+        tell_move(
+            &mut *report,
+            count,
+            Ptr::new((i + 1) as u32, old),
+            Ptr::new(place, new.0),
+        );
+        generation[i] = if old == 0 {
+            0
+        } else {
             count += 1;
-            number = count as u32;
-        }
-        generation[i] = number;
+            place
+        };
         i += 1;
     }
 }
 
-// The new slot of the link in slot s; 0 of none.
-pub fn new_slot(numbers: &[u32], s: u32) -> u32
-    requires { s ≤ length numbers.now }
-    ensures { result ≡ at numbers.now s }
+// The new slot of the link in slot s; slot 0 of slot 0, which is none.
+pub fn new_slot(numbers: &[u32], s: Slot) -> Slot
+    requires { s.0 ≤ length numbers.now }
+    ensures { result.0 ≡ at numbers.now s.0 }
 {
-    if s == 0 {
-        return 0;
+    if s == Slot(0) {
+        return s;
     }
-    numbers[s as usize - 1]
+    slot_at(numbers, s)
+}
+
+// The link in slot s, its neighbours under their new names.
+fn renamed_link(arena: &ArenaMut<'_>, s: Slot) -> LinkNoGen
+    requires within { (0 < s.0) × (s.0 ≤ length arena.now.prev.now) × (s.0 ≤ length arena.now.next.now) × (s.0 ≤ length arena.now.payload.now) }
+    requires numbered { (at arena.now.prev.now s.0 ≤ length arena.now.generation.now) × (at arena.now.next.now s.0 ≤ length arena.now.generation.now) }
+    ensures { (result.prev.0 ≡ new_name arena.now.generation.now arena.now.prev.now s.0)
+        × (result.next.0 ≡ new_name arena.now.generation.now arena.now.next.now s.0)
+        × (result.t ≡ at arena.now.payload.now s.0) }
+{
+    let numbers = &*arena.generation;
+    LinkNoGen {
+        prev: new_slot(numbers, slot_at(&*arena.prev, s)),
+        next: new_slot(numbers, slot_at(&*arena.next, s)),
+        t: word_at(&*arena.payload, s),
+    }
 }
 
 // Moves the words of the link in slot s to place k, its neighbours under their new names.
-pub fn move_link(
-    prev: &mut [u32],
-    next: &mut [u32],
-    payload: &mut [u32],
-    numbers: &[u32],
-    s: usize,
-    k: usize,
-)
-    requires before { (k < s) × (s ≤ length prev.old) × (s ≤ length next.old) × (s ≤ length payload.old) }
-    requires numbered { (at prev.old s ≤ length numbers.now) × (at next.old s ≤ length numbers.now) }
-    ensures { (prev.new ≡ set prev.old k (new_name numbers.now prev.old s))
-        × (next.new ≡ set next.old k (new_name numbers.now next.old s))
-        × (payload.new ≡ set payload.old k (at payload.old s)) }
+pub fn move_link(arena: &mut ArenaMut<'_>, s: Slot, k: usize)
+    requires before { (k < s.0) × (s.0 ≤ length arena.old.prev.now) × (s.0 ≤ length arena.old.next.now) × (s.0 ≤ length arena.old.payload.now) }
+    requires numbered { (at arena.old.prev.now s.0 ≤ length arena.old.generation.now) × (at arena.old.next.now s.0 ≤ length arena.old.generation.now) }
+    ensures moved { held_in arena.new ≡ moved_link s.0 k (held_in arena.old) }
+    ensures lent { SameBuffers arena.old arena.new }
 {
-    let i = s - 1;
-    let before = new_slot(numbers, prev[i]);
-    let after = new_slot(numbers, next[i]);
-    let word = payload[i];
-    prev[k] = before;
-    next[k] = after;
-    payload[k] = word;
+    let link = renamed_link(&*arena, s);
+    arena.prev[k] = link.prev.0;
+    arena.next[k] = link.next.0;
+    arena.payload[k] = link.t;
 }
 
-// Moves the links that the report lists down to the front. Nothing moves where no slot of the n is free.
-pub fn move_down(
-    prev: &mut [u32],
-    next: &mut [u32],
-    payload: &mut [u32],
-    numbers: &[u32],
-    report: &[u32],
-    n: usize,
-    links: usize,
-)
-    requires { Movable prev.old next.old payload.old numbers.now report.now n links }
-    ensures { (prev.new ≡ carried (new_name numbers.now prev.old) numbers.now n prev.old)
-        × (next.new ≡ carried (new_name numbers.now next.old) numbers.now n next.old)
-        × (payload.new ≡ carried (at payload.old) numbers.now n payload.old) }
+// Moves the links that the report lists down to the front. Nothing moves where no slot of the stack is free.
+pub fn move_down(arena: &mut ArenaMut<'_>, report: &[u32])
+    requires header { length arena.old.header.now ≡ header_words }
+    requires movable { Movable arena.old.prev.now arena.old.next.now arena.old.payload.now arena.old.generation.now report.now
+        (stack_length (held_in arena.old)) (link_count (held_in arena.old)) }
+    ensures moved { held_in arena.new ≡ moved_down (held_in arena.old) }
+    ensures lent { SameBuffers arena.old arena.new }
 {
+    let n = arena.header[STACK_LENGTH];
+    let links = arena.header[LINK_COUNT];
     if links == n {
         return;
     }
-    let mut k: usize = 0;
-    while k < links {
-        let s = report[4 * k] as usize;
-        move_link(&mut *prev, &mut *next, &mut *payload, numbers, s, k);
-        k += 1;
+    for k in 0..links as usize {
+        move_link(arena, Slot(report[4 * k]), k);
     }
 }
 
 // Gives the first k slots the generation g.
-pub fn fill_generation(generation: &mut [u32], k: usize, g: u32)
+pub fn fill_generation(generation: &mut [u32], k: usize, g: Gen)
     requires { k ≤ length generation.old }
-    ensures { generation.new ≡ replicate k g ++ drop k generation.old }
+    ensures { generation.new ≡ replicate k g.0 ++ drop k generation.old }
 {
-    let mut i: usize = 0;
-    while i < k {
-        generation[i] = g;
-        i += 1;
-    }
+    generation[..k].fill(g.0);
+}
+
+// Keeps as many slots as there are links, in the current generation, and pops the others. No slot is free then, and the root goes.
+pub fn shrink(arena: &mut ArenaMut<'_>)
+    requires { Shrinkable (held_in arena.old) }
+    ensures shrunk { held_in arena.new ≡ shrunk (held_in arena.old) }
+    ensures lent { SameBuffers arena.old arena.new }
+{
+    let n = arena.header[STACK_LENGTH] as usize;
+    let links = arena.header[LINK_COUNT];
+    let m = links as usize;
+    let new = Gen(arena.header[CURRENT_GENERATION]);
+    fill_generation(arena.generation, m, new);
+    pop_slots(arena, m, n);
+    arena.header[ROOT] = 0;
+    arena.header[STACK_LENGTH] = links;
 }

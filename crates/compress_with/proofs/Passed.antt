@@ -1,20 +1,21 @@
 -- An arena that passed the check can be compressed, and its parts make the definition's reply. Assumes nothing.
 use Prim.Native.Nat.{ℕ, ◌*◌, ◌≤◌, ◌<◌}
-use mathlib.Core.Path.{◌≡◌, refl, sym, ap, ◌∙◌}
+use mathlib.Core.Path.{◌≡◌, refl, ap, ◌∙◌}
 use mathlib.Core.Bool.{Bool}
 use mathlib.Core.List.{List, []}
 use native.Mathlib.Omega.{arith}
 use native.Mathlib.Decide.{ℕ_discrete}
-use lib.ListN.{length, get_or, set}
-use lib.Seq.{set-get_or, get_or-set_same, get_or-set_other}
+use lib.ListN.{length, get_or, length-set}
+use lib.Seq.{set-set, get_or-set_same, get_or-set_other}
 use borrow.Author.Tests.{lt-ltb, le-ltb}
 use Rattle.definitions.specs.Columns.{at, written}
-use Rattle.definitions.specs.Arena.{Arena, arena, capacity_limit, header_words, stack_length, link_count, with_stack_length, with_link_count, with_root, with_current, link_slots}
+use Rattle.definitions.specs.Arena.{Arena, capacity_limit, header_words, stack_length, link_count, current, with_current, with_header, link_slots}
 use Rattle.definitions.specs.Check.{verdict, Neighbour}
 use Rattle.definitions.specs.Reply.{reply}
-use Rattle.definitions.specs.Compress.{compress_generation, compressed_header, relocate, moves_of, compress_with}
+use Rattle.definitions.specs.Compress.{compress_generation, relocate, moves_of, compress_with}
 use Rattle.definitions.proofs.Slots.{allocated_within}
 use Rattle.well_formed.proofs.WellFormed.{well_formed_if_passes}
+use Rattle.renaming.proofs.CompressWith.{moves_read}
 use Rattle.compress_moves.specs.Moves.{Renewed, Compressible}
 
 -- a neighbour is none, or a slot of the stack
@@ -40,26 +41,58 @@ compressible a v h =
       room = h;
     }
 
--- the last word of a renewed header is the new generation
-pub renewed_word : {top : ℕ} {reset : Bool} {a : Arena} {k : ℕ} {h : List ℕ} → length a.header ≡ header_words → Renewed top reset a k h → get_or h 3 0 ≡ compress_generation top reset a
-renewed_word {a = a} l r = ap (λ (x : List ℕ). get_or x 3 0) r.header ∙ get_or-set_same a.header 3 _ 0 (omega arith)
+pub refused : (top : ℕ) (reset : Bool) (a : Arena) (report : List ℕ) → length report < 4 * link_count a → reply 14 [] a report ≡ compress_with top reset a report
+unfolding compress_with
+refused top reset a report h = rw (lt-ltb _ _ h) refl
 
-module _ (a : Arena) where
-  pub refused : (top : ℕ) (reset : Bool) (report : List ℕ) → length report < 4 * link_count a → reply 14 [] a report ≡ compress_with top reset a report
-  unfolding compress_with
-  refused top reset report h = rw (lt-ltb _ _ h) refl
+-- ---- the arena in its new generation
 
-  -- a compression keeps the link count
-  same_count : (g : ℕ) → with_link_count (link_count a) (with_root 0 (with_current g a.header)) ≡ with_root 0 (with_current g a.header)
-  same_count g =
-      let h = with_root 0 (with_current g a.header) in
-      let word : get_or h 1 0 ≡ link_count a = get_or-set_other (with_current g a.header) 2 1 0 0 (omega arith) ∙ get_or-set_other a.header 3 1 g 0 (omega arith) in
-      ap (λ (v : ℕ). set h 1 v) (sym word) ∙ set-get_or h 1 0
+module _ (a : Arena) (passed : verdict capacity_limit a ≡ 0) (g : ℕ) where
+  abbrev h : List ℕ
+  h = with_current g a.header
 
-  pub compressed : {top : ℕ} {reset : Bool} {k g : ℕ} {h ps ns gs vs told : List ℕ} (report : List ℕ) → 4 * link_count a ≤ length report → g ≡ compress_generation top reset a → Renewed top reset a k h
-      → arena ps ns gs vs (compressed_header (link_count a) g a.header) ≡ relocate (link_slots a.generation (stack_length a)) g a
-      → told ≡ written (moves_of a g 1 (link_slots a.generation (stack_length a))) report
-      → reply k [] (arena ps ns gs vs (with_stack_length (link_count a) (with_root 0 h))) told ≡ compress_with top reset a report
-  unfolding compress_with
-  compressed {g = g} report room e r moved reported =
-      rw (le-ltb _ _ room, r.number, r.header, ← e, reported, ← moved, same_count g) refl
+  four : length a.header ≡ header_words
+  four = (well_formed_if_passes capacity_limit a passed).header
+
+  word : (i : ℕ) → (i ≡ 3 → ⊥) → get_or (with_current g a.header) i 0 ≡ get_or a.header i 0
+  word i d = get_or-set_other a.header 3 i g 0 d
+
+  stack : get_or (with_current g a.header) 0 0 ≡ stack_length a
+  stack = word 0 (λ z. omega arith)
+
+  links : get_or (with_current g a.header) 1 0 ≡ link_count a
+  links = word 1 (λ z. omega arith)
+
+  new : get_or (with_current g a.header) 3 0 ≡ g
+  new = get_or-set_same a.header 3 g 0 (omega (arith, four))
+
+  -- it is compressed as it would be in the old one
+  same_relocation : (w : List ℕ) → relocate w g (with_header a (with_current g a.header)) ≡ relocate w g a
+  unfolding relocate
+  same_relocation w = rw (stack, set-set a.header 3 g g) refl
+
+module _ {top : ℕ} {reset : Bool} {a b : Arena} {k : ℕ} (passed : verdict capacity_limit a ≡ 0) (renewed : Renewed top reset a k b.header) (others : b ≡ with_header a b.header) where
+  in_new : b ≡ with_header a (with_current (compress_generation top reset a) a.header)
+  in_new = others ∙ ap (with_header a) renewed.header
+
+  pub header_words_stay : length b.header ≡ header_words
+  header_words_stay =
+      let g = compress_generation top reset a in
+      ap length renewed.header ∙ (length-set a.header 3 g ∙ four a passed g)
+
+  module _ (report : List ℕ) (room : 4 * link_count a ≤ length report) where
+    pub compressible_again : Compressible b.prev b.next b.generation b.payload (stack_length b) (link_count b) (length report)
+    compressible_again =
+        let g = compress_generation top reset a in
+        rw (in_new, stack a passed g, links a passed g) (compressible a passed room)
+
+    pub compressed : {left : Arena} {told : List ℕ}
+        → left ≡ relocate (link_slots b.generation (stack_length b)) (current b) b
+        → told ≡ written (moves_of b (current b) 1 (link_slots b.generation (stack_length b))) report
+        → reply k [] left told ≡ compress_with top reset a report
+    unfolding compress_with
+    compressed moved reported =
+        let g = compress_generation top reset a in
+        let w = link_slots a.generation (stack_length a) in
+        rw (le-ltb _ _ room, renewed.number, moved, reported, in_new, stack a passed g, new a passed g, same_relocation a passed g w, moves_read (with_header a (with_current g a.header)) a g 1 w refl)
+        refl

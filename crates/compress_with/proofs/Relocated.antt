@@ -3,22 +3,24 @@
 use Prim.Native.Nat.{ℕ, zero, suc, ◌*◌, ◌≤◌, ◌<◌}
 use mathlib.Core.Path.{◌≡◌, refl, sym, ap, ◌∙◌}
 use mathlib.Core.Bool.{true}
-use mathlib.Core.List.{List, [], ◌∷◌, ◌++◌, map}
+use mathlib.Core.List.{List, [], ◌∷◌, map}
 use native.Mathlib.Omega.{arith}
-use lib.ListN.{length, get_or, drop, replicate, length-map, length-replicate}
+use lib.ListN.{length, get_or, drop, replicate, length-map}
 use lib.Seq.{take-append_seam}
 use Rattle.definitions.specs.Columns.{at, slots_from, settled, written}
-use Rattle.definitions.specs.Arena.{Arena, arena, allocated, link_slots}
-use Rattle.definitions.specs.Compress.{place, moves_of, compressed_header, relocate}
+use Rattle.definitions.specs.Arena.{Arena, arena, header_words, stack_length, link_count, current, allocated, link_slots}
+use Rattle.definitions.specs.Compress.{place, moves_of, relocate}
 use Rattle.definitions.proofs.Columns.{at_suc}
 use Rattle.definitions.proofs.Slots.{links_and_free}
 use Rattle.definitions.proofs.Count.{only_links}
-use Rattle.definitions.proofs.Written.{written_rest, written_reads}
+use Rattle.definitions.proofs.Written.{length_written, written_rest, written_reads}
 use Rattle.base_freelist.specs.Popped.{popped}
 use Rattle.base_freelist.proofs.Settled.{settled_over}
-use Rattle.compress_moves.specs.Moves.{numbered, new_name, carried, Movable, Compressible}
+use Rattle.compress_moves.specs.Moves.{numbered, new_name, carried, Movable, moved_down, Compressible}
+use Rattle.compress_moves.specs.Shrunk.{Shrinkable, shrunk}
 use Rattle.compress_moves.proofs.Numbers.{length_moves}
 use Rattle.compress_moves.proofs.Moving.{map_agree}
+use Rattle.compress_moves.proofs.Shrinks.{shrunk_header}
 use Rattle.compress_moves.proofs.Names.{numbered_at, numbered_links, numbered_link, numbered_full, length_numbered, numbers_long}
 
 -- popping leaves the words at the front, and the old words past the stack
@@ -26,6 +28,9 @@ written_popped : (ws old : List ℕ) (k n : ℕ) → length ws ≡ k → k ≤ n
 unfolding written
 written_popped ws old k n e h =
     rw (← e) (ap (λ (l : List ℕ). settled n l (written ws old)) (take-append_seam ws (drop (length ws) old)) ∙ settled_over n ws (written ws old) old (written_rest ws old n (omega arith)))
+
+length_carried : (f : ℕ → ℕ) (numbers : List ℕ) (n : ℕ) (column : List ℕ) → n ≤ length column → length (carried f numbers n column) ≡ length column
+length_carried f numbers n column h = length_written (map f (link_slots numbers n)) column (omega (arith, length-map (link_slots numbers n) f, links_and_free numbers n))
 
 filled : (g : ℕ) (w : List ℕ) → replicate (length w) g ≡ map (λ (o : ℕ). g) w
 filled g [] = refl
@@ -89,24 +94,31 @@ module _ {ps ns gs vs : List ℕ} {n links room : ℕ} (can : Compressible ps ns
   numbers_rest = written_rest (map (place w) (slots_from 1 n)) gs n (omega (arith, numbers_long gs n fits))
 
   -- the links are all of the new generation
-  stamped : (g : ℕ) → popped links n (replicate links g ++ drop links numbers) ≡ settled n (map (λ o. g) w) gs
-  unfolding written
+  stamped : (g : ℕ) → settled n (replicate links g) numbers ≡ settled n (map (λ o. g) w) gs
   stamped g =
-      let size : length (replicate links g) ≡ links = length-replicate links g in
-      let front : replicate links g ++ drop links numbers ≡ written (replicate links g) numbers = rw size refl in
-      ap (popped links n) front
-      ∙ (written_popped (replicate links g) numbers links n size few
-      ∙ (settled_over n (replicate links g) numbers gs numbers_rest
-      ∙ ap (λ (l : List ℕ). settled n l gs) (ap (λ (k : ℕ). replicate k g) can.counted ∙ filled g w)))
+      settled_over n (replicate links g) numbers gs numbers_rest
+      ∙ ap (λ (l : List ℕ). settled n l gs) (ap (λ (k : ℕ). replicate k g) can.counted ∙ filled g w)
+
+  -- there are as many slots as before
+  pub roomy : (n ≤ length (carried (new_name numbers ps) numbers n ps)) × (n ≤ length (carried (new_name numbers ns) numbers n ns)) × (n ≤ length numbers)
+      × (n ≤ length (carried (at vs) numbers n vs)) × (links ≤ n)
+  roomy = (
+    omega (arith, length_carried (new_name numbers ps) numbers n ps can.prev_within, can.prev_within),
+    omega (arith, length_carried (new_name numbers ns) numbers n ns can.next_within, can.next_within),
+    omega (arith, length_numbered gs n fits, fits),
+    omega (arith, length_carried (at vs) numbers n vs can.payload_within, can.payload_within),
+    few,
+  )
+
+module _ {a : Arena} {room : ℕ} (can : Compressible a.prev a.next a.generation a.payload (stack_length a) (link_count a) room) {numbers : List ℕ} {moved : Arena}
+    (named : numbers ≡ numbered a.generation (stack_length a)) (moves : moved ≡ moved_down (arena a.prev a.next numbers a.payload a.header)) where
+  pub shrinkable : length a.header ≡ header_words → Shrinkable moved
+  shrinkable four =
+      let fits = roomy can in
+      rw (moves, named) (record { header = four; room = record { prev = fits.0; next = fits.1; generation = fits.2; payload = fits.3 }; links = fits.4 })
 
   -- the columns together, once the links are moved down and stamped, and the slots behind them popped
-  pub relocated : (g : ℕ) {ps' ns' vs' gs' : List ℕ}
-      → ps' ≡ carried (new_name numbers ps) numbers n ps
-      → ns' ≡ carried (new_name numbers ns) numbers n ns
-      → vs' ≡ carried (at vs) numbers n vs
-      → gs' ≡ replicate links g ++ drop links numbers
-      → (h : List ℕ) → get_or h 0 0 ≡ n
-      → arena (popped links n ps') (popped links n ns') (popped links n gs') (popped links n vs') (compressed_header links g h) ≡ relocate w g (arena ps ns gs vs h)
-  unfolding relocate
-  relocated g p q v s h e =
-      rw (p, q, v, s, renamed ps can.prev, renamed ns can.next, payloads, stamped g, e, can.counted) refl
+  pub relocated : {left : Arena} → left ≡ shrunk moved → left ≡ relocate (link_slots a.generation (stack_length a)) (current a) a
+  unfolding relocate shrunk
+  relocated shrinks =
+      rw (shrinks, moves, named, renamed can a.prev can.prev, renamed can a.next can.next, payloads can, stamped can (current a), ← can.counted, shrunk_header a) refl

@@ -2,103 +2,54 @@
 // the new generation in the end, so meanwhile the generation column holds each link's new slot.
 #![tactic(auto)]
 
-ghost use Rattle.std.specs.Prelude.{◌≡◌, List, [], ℕ, ◌*◌, ◌<◌, length, get_or};
+ghost use Rattle.std.specs.Prelude.{◌≡◌, length};
 ghost use Rattle.definitions.specs.Columns.{written};
-ghost use Rattle.definitions.specs.Arena.{arena, capacity_limit, largest_generation, link_slots};
-ghost use Rattle.definitions.specs.Lent.{lent};
+ghost use Rattle.definitions.specs.Arena.{capacity_limit, largest_generation, header_words, stack_length, link_count, current, link_slots};
 ghost use Rattle.definitions.specs.Check.{verdict};
-ghost use Rattle.definitions.specs.Reply.{reply};
-ghost use Rattle.definitions.specs.Compress.{compressed_header, relocate, moves_of, compress_with};
-ghost use Rattle.compress_with.specs.Answers.{compressed_number};
+ghost use Rattle.definitions.specs.Compress.{relocate, moves_of, compress_with};
+ghost use Rattle.lent.specs.Arenas.{held_in, SameBuffers};
+ghost use Rattle.compress_moves.specs.Compressed.{compressed_reply};
 ghost use Rattle.compress_moves.specs.Moves.{Compressible};
 
-use base_freelist::pop_slots;
-use compress_moves::{fill_generation, move_down, number_links, renew_generation};
-use header::{CURRENT_GENERATION, LINK_COUNT, ROOT, STACK_LENGTH};
-use ptr::InvalidationOption;
+use compress_moves::{move_down, number_links, renew_generation, shrink};
+use header::{CURRENT_GENERATION, LINK_COUNT};
+use lent::ArenaMut;
+use ptr::{Gen, InvalidationOption};
+use refusals::Refusal;
 
-// What became of a compression.
-#[derive(Clone, Copy)]
-pub enum Compressed {
-    Done(InvalidationOption),
-    NoRoom,
-}
-
-impl Compressed {
-    // The number of the answer (REFERENCE, Numbers).
-    pub fn number(self) -> u32
-        ensures { result ≡ compressed_number self }
-    {
-        match self {
-            Compressed::Done(overflow) => overflow.number(),
-            Compressed::NoRoom => 14,
-        }
-    }
-}
-
-// Moves the links of a stack of n slots to its front, in the order of their slots, reports them, and gives them the generation new.
-pub fn compress_columns(
-    prev: &mut [u32],
-    next: &mut [u32],
-    generation: &mut [u32],
-    payload: &mut [u32],
-    report: &mut [u32],
-    n: usize,
-    links: usize,
-    new: u32,
-)
-    requires { Compressible prev.old next.old generation.old payload.old n links (length report.old) }
-    ensures moved { (h : List ℕ) → get_or h 0 0 ≡ n → arena prev.new next.new generation.new payload.new (compressed_header links new h)
-        ≡ relocate (link_slots generation.old n) new (arena prev.old next.old generation.old payload.old h) }
-    ensures reported { (h : List ℕ) → report.new
-        ≡ written (moves_of (arena prev.old next.old generation.old payload.old h) new 1 (link_slots generation.old n)) report.old }
+// Moves the links to the front of the stack, in the order of their slots, reports them, and gives them the current generation.
+pub fn compress_columns(arena: &mut ArenaMut<'_>, report: &mut [u32])
+    requires header { length arena.old.header.now ≡ header_words }
+    requires compressible { Compressible arena.old.prev.now arena.old.next.now arena.old.generation.now arena.old.payload.now
+        (stack_length (held_in arena.old)) (link_count (held_in arena.old)) (length report.old) }
+    ensures moved { held_in arena.new ≡ relocate (link_slots arena.old.generation.now (stack_length (held_in arena.old))) (current (held_in arena.old)) (held_in arena.old) }
+    ensures reported { report.new
+        ≡ written (moves_of (held_in arena.old) (current (held_in arena.old)) 1 (link_slots arena.old.generation.now (stack_length (held_in arena.old)))) report.old }
+    ensures lent { SameBuffers arena.old arena.new }
 {
-    number_links(&mut *generation, &mut *report, n, links, new);
-    move_down(
-        &mut *prev,
-        &mut *next,
-        &mut *payload,
-        &*generation,
-        &*report,
-        n,
-        links,
-    );
-    fill_generation(&mut *generation, links, new);
-    pop_slots(prev, next, generation, payload, links, n);
+    let links = arena.header[LINK_COUNT] as usize;
+    let new = Gen(arena.header[CURRENT_GENERATION]);
+    number_links(arena.generation, &mut *report, links, new);
+    move_down(arena, &*report);
+    shrink(arena);
 }
 
 // Order-preserving compression of an arena that passed the check (REFERENCE, Order-preserving compression).
 pub fn compress_with(
-    prev: &mut [u32],
-    next: &mut [u32],
-    generation: &mut [u32],
-    payload: &mut [u32],
-    header: &mut [u32],
+    arena: &mut ArenaMut<'_>,
     reset: bool,
     report: &mut [u32],
-) -> Compressed
-    requires { verdict capacity_limit (arena prev.old next.old generation.old payload.old header.old) ≡ 0 }
-    ensures { reply (compressed_number result) [] (arena prev.new next.new generation.new payload.new header.new) report.new
-        ≡ compress_with largest_generation reset (arena prev.old next.old generation.old payload.old header.old) report.old }
+) -> Result<InvalidationOption, Refusal>
+    requires { verdict capacity_limit (held_in arena.old) ≡ 0 }
+    ensures compressed { compressed_reply result (held_in arena.new) report.new
+        ≡ compress_with largest_generation reset (held_in arena.old) report.old }
+    ensures lent { SameBuffers arena.old arena.new }
 {
-    let n = header[STACK_LENGTH] as usize;
-    let links = header[LINK_COUNT];
-    if report.len() < 4 * links as usize {
-        return Compressed::NoRoom;
+    let links = arena.header[LINK_COUNT] as usize;
+    if report.len() < 4 * links {
+        return Err(Refusal::SliceLength);
     }
-    let renewed = renew_generation(&mut *header, reset);
-    let new = header[CURRENT_GENERATION];
-    compress_columns(
-        prev,
-        next,
-        generation,
-        payload,
-        report,
-        n,
-        links as usize,
-        new,
-    );
-    header[ROOT] = 0;
-    header[STACK_LENGTH] = links;
-    Compressed::Done(renewed)
+    let renewed = renew_generation(arena, reset);
+    compress_columns(arena, report);
+    Ok(renewed)
 }

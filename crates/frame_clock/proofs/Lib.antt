@@ -1,2 +1,1 @@
-mod Starts
-mod Windows
+pub mod Starts

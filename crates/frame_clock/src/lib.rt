@@ -1,29 +1,38 @@
 // The frame clock: the lines and dots of a frame, and windows of dots (REFERENCE, Frame clock).
 #![tactic(auto)]
 
-ghost use Rattle.std.specs.Prelude.{◌≡◌, true, ◌<◌};
+ghost use Rattle.std.specs.Prelude.{◌≡◌, true, false, ◌≤◌, ◌<◌, MatchOption, MatchResult};
 ghost use Rattle.definitions.specs.Clock.{frame_dots, frame_lines, first_dot, last_dot, line_of, is_window, due};
 
+use refusals::Refusal;
+
 // A dot of the frame, counted from 0 through all its lines.
-#[derive(Clone, Copy)]
-pub struct Dot(pub u32);
+#[derive(Clone, Copy, PartialEq, Eq, PartialOrd, Ord)]
+pub struct Dot {
+    pub index: u32,
+    pub ghost in_frame: { index < frame_dots },
+}
 
 // A line of the frame, counted from 0.
-#[derive(Clone, Copy)]
-pub struct Line(pub u32);
+#[derive(Clone, Copy, PartialEq, Eq, PartialOrd, Ord)]
+pub struct Line {
+    pub index: u32,
+    pub ghost in_frame: { index < frame_lines },
+}
 
 // The ends of a line.
-#[derive(Clone, Copy)]
+#[derive(Clone, Copy, PartialEq, Eq)]
 pub struct LineDots {
     pub first: Dot,
     pub last: Dot,
 }
 
-// A window of dots: it begins with one and ends before another; past the end of the frame it goes on at its start.
-#[derive(Clone, Copy)]
+// A window of dots of the frame: it begins with one and ends before another, or with the frame; past the end of the frame it goes on at its start.
+#[derive(Clone, Copy, PartialEq, Eq)]
 pub struct Window {
-    pub from: Dot,
-    pub to: Dot,
+    pub from: u32,
+    pub to: u32,
+    pub ghost in_frame: { is_window from to ≡ true },
 }
 
 // How many lines a frame has.
@@ -33,66 +42,89 @@ pub const LINES: u32 = 262;
 pub const DOTS_PER_LINE: u32 = 341;
 
 // How many dots a frame has.
-pub const DOTS: u32 = 89342;
+pub const DOTS: u32 = LINES * DOTS_PER_LINE;
 
 impl Line {
+    // The line of this index, where the frame has it.
+    pub fn new(index: u32) -> Option<Line>
+        ensures { MatchOption result (frame_lines ≤ index) (λ line. line.index ≡ index) }
+    {
+        if index >= LINES {
+            return None;
+        }
+        Some(Line { index })
+    }
+
     // The first dot of this line.
     pub fn first(self) -> Dot
-        requires { self.0 < frame_lines }
-        ensures { result.0 ≡ first_dot self.0 }
+        ensures { result.index ≡ first_dot self.index }
     {
-        Dot(LINE_STARTS[self.0 as usize])
+        Dot {
+            index: LINE_STARTS[self.index as usize],
+        }
     }
 
     // The first and the last dot of this line.
+    #[tactic(auto, unfolding(definitions::specs::Clock::first_dot, definitions::specs::Clock::last_dot))]
     pub fn dots(self) -> LineDots
-        requires { self.0 < frame_lines }
-        ensures { (result.first.0 ≡ first_dot self.0) × (result.last.0 ≡ last_dot self.0) }
+        ensures { (result.first.index ≡ first_dot self.index) × (result.last.index ≡ last_dot self.index) }
     {
         let first = self.first();
-        LineDots {
-            first: first,
-            last: Dot(first.0 + DOTS_PER_LINE - 1),
-        }
+        let last = Dot {
+            index: first.index + DOTS_PER_LINE - 1,
+        };
+        LineDots { first, last }
     }
 }
 
 impl Dot {
+    // The dot of this index, where the frame has it.
+    pub fn new(index: u32) -> Option<Dot>
+        ensures { MatchOption result (frame_dots ≤ index) (λ dot. dot.index ≡ index) }
+    {
+        if index >= DOTS {
+            return None;
+        }
+        Some(Dot { index })
+    }
+
     // The line of this dot. Three dots in 1,024 are a little less than one in 341; over the whole frame that makes less than one line. So three times the
     // dot, divided by 1,024, is its line or the line before it, and the table tells which.
+    #[tactic(auto, unfolding(definitions::specs::Clock::first_dot, definitions::specs::Clock::line_of))]
     pub fn line(self) -> Line
-        requires { self.0 < frame_dots }
-        ensures { result.0 ≡ line_of self.0 }
+        ensures { result.index ≡ line_of self.index }
     {
-        let near = self.0 * 3 / 1024;
-        let after = Line(near + 1);
-        if after.0 == LINES {
-            return Line(near);
+        let near = self.index * 3 / 1024;
+        match Line::new(near + 1) {
+            Some(after) if after.first() <= self => after,
+            _ => Line { index: near },
         }
-        if self.0 < after.first().0 {
-            return Line(near);
-        }
-        after
     }
 }
 
 impl Window {
-    // Whether the window is one of the frame.
-    pub fn is_window(self) -> bool
-        ensures { result ≡ is_window self.from.0 self.to.0 }
+    // The window that begins with dot `from` and ends before `to`, where it is one of the frame.
+    #[tactic(auto, using(std::proofs::lemmas::Bool::Decides::nat_tests), unfolding(definitions::specs::Clock::is_window))]
+    pub fn new(from: u32, to: u32) -> Result<Window, Refusal>
+        ensures { MatchResult result
+            (λ window. (window.from ≡ from) × (window.to ≡ to))
+            (λ refusal. (refusal ≡ Refusal.OutOfFrame) × (is_window from to ≡ false)) }
     {
-        self.from.0 < DOTS && self.to.0 <= DOTS
+        if from < DOTS && to <= DOTS {
+            return Ok(Window { from, to });
+        }
+        Err(Refusal::OutOfFrame)
     }
 
     // Whether a payload is due.
+    #[tactic(auto, using(std::proofs::lemmas::Bool::Decides::nat_tests), unfolding(definitions::specs::Clock::due, definitions::specs::Clock::is_window))]
     pub fn takes(self, payload: u32) -> bool
-        requires { is_window self.from.0 self.to.0 ≡ true }
-        ensures { result ≡ due self.from.0 self.to.0 payload }
+        ensures { result ≡ due self.from self.to payload }
     {
-        if self.to.0 < self.from.0 {
-            return payload < self.to.0 || self.from.0 <= payload && payload < DOTS;
+        if self.to < self.from {
+            return payload < self.to || self.from <= payload && payload < DOTS;
         }
-        self.from.0 <= payload && payload < self.to.0
+        self.from <= payload && payload < self.to
     }
 }
 

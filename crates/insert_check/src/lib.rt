@@ -1,86 +1,77 @@
-// The place that a kind of insertion names (`check_link_insert_kind` of chain/impl_chain_arena_trait.rs), in an arena that passed the check.
+// The place that a kind of insertion names (`check_link_insert_kind` of chain/impl_chain_arena_trait.rs), of a lent arena.
 #![tactic(auto)]
 
-ghost use Rattle.std.specs.Prelude.{◌≡◌};
-ghost use Rattle.definitions.specs.Arena.{capacity_limit};
-ghost use Rattle.definitions.specs.Lent.{lent, at_entry};
+ghost use Rattle.std.specs.Prelude.{◌≡◌, ℕ};
 ghost use Rattle.definitions.specs.Insert.{place_of};
-ghost use Rattle.definitions.proofs.Shaped.{Shaped};
-ghost use Rattle.insert_kinds.specs.Kinds.{insert_kind_of};
+ghost use Rattle.lent.specs.Arenas.{arena_of};
+ghost use Rattle.insert_kinds.specs.Kinds.{kind_beside, insert_kind_of};
 ghost use Rattle.insert_places.specs.Places.{placed};
 
-use header::STACK_LENGTH;
-use insert_kinds::LinkInsertKind;
-use insert_places::{
-    Place, at_interlink, both, bridge, contains, contains_inx, lacks, next_to, place_if, prev_to,
-};
+use columns::slot_at;
+use insert_kinds::{Kind, LinkInsertKind};
+use insert_places::{LinkName, Place, bridge, lacks};
+use lent::ArenaRef;
 use ptr::Slot;
 
 // The place that a kind names, if what it asks holds. t is the slot of the new link.
-pub fn check_link_insert_kind(
-    prev: &[u32],
-    next: &[u32],
-    generation: &[u32],
-    payload: &[u32],
-    header: &[u32],
-    t: Slot,
-    kind: LinkInsertKind,
-) -> Place
-    requires { Shaped capacity_limit (lent prev next generation payload header) }
-    ensures { placed result ≡ place_of (at_entry prev next generation payload header) t.0 (insert_kind_of kind) }
+#[tactic(auto, unfolding(definitions::specs::Insert::place_of))]
+pub fn check_link_insert_kind(arena: ArenaRef<'_>, t: Slot, kind: LinkInsertKind) -> Option<Place>
+    ensures { placed result ≡ place_of (arena_of arena.entry) t.0 (insert_kind_of kind) }
 {
-    let n = header[STACK_LENGTH] as usize;
     match kind {
-        LinkInsertKind::Disconnected => Place::Between(Slot(0), Slot(0)),
-        LinkInsertKind::SingleLinkCyclic => Place::Between(t, t),
-        LinkInsertKind::ChainEnd(p) => {
-            place_if(
-                lacks(next, contains(generation, n, p), p.inx),
-                p.inx,
-                Slot(0),
-            )
+        LinkInsertKind::Disconnected => Some(Place {
+            prev: Slot(0),
+            next: Slot(0),
+        }),
+        LinkInsertKind::SingleLinkCyclic => Some(Place { prev: t, next: t }),
+        LinkInsertKind::ByPtr(kind) => place_beside(arena, kind),
+        LinkInsertKind::ByInx(kind) => place_beside(arena, kind),
+    }
+}
+
+// The place beside the links that a kind names, if they are there and what else it asks holds.
+#[tactic(auto, unfolding(definitions::specs::Insert::place_of, definitions::specs::Insert::place_if))]
+fn place_beside<L: LinkName>(arena: ArenaRef<'_>, kind: Kind<L>) -> Option<Place>
+    ensures { (t : ℕ) → placed result ≡ place_of (arena_of arena.entry) t (kind_beside L.name kind) }
+{
+    match kind {
+        Kind::ChainEnd(p) => {
+            let end = p.found(arena)?;
+            lacks(arena.next, end).then_some(Place {
+                prev: end,
+                next: Slot(0),
+            })
         }
-        LinkInsertKind::ChainEndInx(s) => {
-            place_if(lacks(next, contains_inx(generation, n, s), s), s, Slot(0))
+        Kind::ChainStart(p) => {
+            let start = p.found(arena)?;
+            lacks(arena.prev, start).then_some(Place {
+                prev: Slot(0),
+                next: start,
+            })
         }
-        LinkInsertKind::ChainStart(p) => {
-            place_if(
-                lacks(prev, contains(generation, n, p), p.inx),
-                Slot(0),
-                p.inx,
-            )
+        Kind::NextTo(p) => {
+            let s = p.found(arena)?;
+            Some(Place {
+                prev: s,
+                next: slot_at(arena.next, s),
+            })
         }
-        LinkInsertKind::ChainStartInx(s) => {
-            place_if(lacks(prev, contains_inx(generation, n, s), s), Slot(0), s)
+        Kind::PrevTo(p) => {
+            let s = p.found(arena)?;
+            Some(Place {
+                prev: slot_at(arena.prev, s),
+                next: s,
+            })
         }
-        LinkInsertKind::NextTo(p) => next_to(next, contains(generation, n, p), p.inx),
-        LinkInsertKind::NextToInx(s) => next_to(next, contains_inx(generation, n, s), s),
-        LinkInsertKind::PrevTo(p) => prev_to(prev, contains(generation, n, p), p.inx),
-        LinkInsertKind::PrevToInx(s) => prev_to(prev, contains_inx(generation, n, s), s),
-        LinkInsertKind::AtInterlink { next_to, prev_to } => {
-            let there = both(
-                contains(generation, n, next_to),
-                contains(generation, n, prev_to),
-            );
-            at_interlink(next, there, next_to.inx, prev_to.inx)
+        Kind::AtInterlink { next_to, prev_to } => {
+            let s = next_to.found(arena)?;
+            let t = prev_to.found(arena)?;
+            (slot_at(arena.next, s) == t).then_some(Place { prev: s, next: t })
         }
-        LinkInsertKind::AtInterlinkInx { next_to, prev_to } => {
-            let there = both(
-                contains_inx(generation, n, next_to),
-                contains_inx(generation, n, prev_to),
-            );
-            at_interlink(next, there, next_to, prev_to)
-        }
-        LinkInsertKind::Bridge { end, start } => {
-            let there = both(contains(generation, n, end), contains(generation, n, start));
-            bridge(prev, next, there, end.inx, start.inx)
-        }
-        LinkInsertKind::BridgeInx { end, start } => {
-            let there = both(
-                contains_inx(generation, n, end),
-                contains_inx(generation, n, start),
-            );
-            bridge(prev, next, there, end, start)
+        Kind::Bridge { end, start } => {
+            let s = end.found(arena)?;
+            let t = start.found(arena)?;
+            bridge(arena.prev, arena.next, s, t)
         }
     }
 }

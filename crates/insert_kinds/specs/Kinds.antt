@@ -1,5 +1,9 @@
 -- The code's kinds as the definitions have them (REFERENCE, Insert).
+use Rattle.std.specs.Prelude.{Option, Some, None}
 use Rattle.definitions.specs.Insert.{
+  Named,
+  by_pointer,
+  by_slot,
   InsertKind,
   Disconnected as Disconnected₁,
   SingleLinkCyclic as SingleLinkCyclic₁,
@@ -9,49 +13,40 @@ use Rattle.definitions.specs.Insert.{
   PrevTo as PrevTo₁,
   AtInterlink as AtInterlink₁,
   Bridge as Bridge₁,
-  by_pointer,
-  by_slot,
-  Coded as Coded₁,
+  Coded,
   kind,
   unknown,
 }
-use Rattle.chain_traits.specs.Read.{pointer_of}
+use Rattle.ptr.specs.Pointers.{pointer_of}
+use Rattle.ptr.specs.declared.Ptr.{Ptr}
+use Rattle.ptr.specs.declared.Slot.{Slot}
+use Rattle.insert_kinds.specs.declared.Kind.{Kind}
+use Rattle.insert_kinds.specs.declared.Kind.TheVariants.{ChainEnd, ChainStart, NextTo, PrevTo, AtInterlink, Bridge}
 use Rattle.insert_kinds.specs.declared.LinkInsertKind.{LinkInsertKind}
-use Rattle.insert_kinds.specs.declared.LinkInsertKind.TheVariants.{
-  Disconnected,
-  SingleLinkCyclic,
-  ChainEnd,
-  ChainEndInx,
-  ChainStart,
-  ChainStartInx,
-  NextTo,
-  NextToInx,
-  PrevTo,
-  PrevToInx,
-  AtInterlink,
-  AtInterlinkInx,
-  Bridge,
-  BridgeInx,
-}
-use Rattle.insert_kinds.specs.declared.Coded.{Coded}
-use Rattle.insert_kinds.specs.declared.Coded.TheVariants.{Kind, Unknown}
+use Rattle.insert_kinds.specs.declared.LinkInsertKind.TheVariants.{Disconnected, SingleLinkCyclic, ByPtr, ByInx}
+
+-- a link as it is named by its pointer, and by its slot
+abbrev pub ptr_name : Ptr → Named
+ptr_name p = by_pointer (pointer_of p)
+
+abbrev pub slot_name : Slot → Named
+slot_name s = by_slot s.0
+
+-- a kind beside links, each of which is named as `name` says
+abbrev pub kind_beside : {L : Type 0} → (L → Named) → Kind L → InsertKind
+kind_beside name (ChainEnd p) = ChainEnd₁ (name p)
+kind_beside name (ChainStart p) = ChainStart₁ (name p)
+kind_beside name (NextTo p) = NextTo₁ (name p)
+kind_beside name (PrevTo p) = PrevTo₁ (name p)
+kind_beside name (AtInterlink p q) = AtInterlink₁ (name p) (name q)
+kind_beside name (Bridge p q) = Bridge₁ (name p) (name q)
 
 abbrev pub insert_kind_of : LinkInsertKind → InsertKind
 insert_kind_of Disconnected = Disconnected₁
 insert_kind_of SingleLinkCyclic = SingleLinkCyclic₁
-insert_kind_of (ChainEnd p) = ChainEnd₁ (by_pointer (pointer_of p))
-insert_kind_of (ChainEndInx s) = ChainEnd₁ (by_slot s.0)
-insert_kind_of (ChainStart p) = ChainStart₁ (by_pointer (pointer_of p))
-insert_kind_of (ChainStartInx s) = ChainStart₁ (by_slot s.0)
-insert_kind_of (NextTo p) = NextTo₁ (by_pointer (pointer_of p))
-insert_kind_of (NextToInx s) = NextTo₁ (by_slot s.0)
-insert_kind_of (PrevTo p) = PrevTo₁ (by_pointer (pointer_of p))
-insert_kind_of (PrevToInx s) = PrevTo₁ (by_slot s.0)
-insert_kind_of (AtInterlink p q) = AtInterlink₁ (by_pointer (pointer_of p)) (by_pointer (pointer_of q))
-insert_kind_of (AtInterlinkInx s t) = AtInterlink₁ (by_slot s.0) (by_slot t.0)
-insert_kind_of (Bridge p q) = Bridge₁ (by_pointer (pointer_of p)) (by_pointer (pointer_of q))
-insert_kind_of (BridgeInx s t) = Bridge₁ (by_slot s.0) (by_slot t.0)
+insert_kind_of (ByPtr k) = kind_beside ptr_name k
+insert_kind_of (ByInx k) = kind_beside slot_name k
 
-abbrev pub coded_of : Coded → Coded₁
-coded_of (Kind k) = kind (insert_kind_of k)
-coded_of Unknown = unknown
+abbrev pub coded_of : Option LinkInsertKind → Coded
+coded_of (Some k) = kind (insert_kind_of k)
+coded_of None = unknown

@@ -1,33 +1,38 @@
--- Laws of the tests that `contains_inx` and `bridge` make. Assumes nothing.
-use Prim.Native.Nat.{ℕ, ◌≤◌}
-use mathlib.Core.Bool.{Bool, true, false, not, ◌&&◌, true≢false}
-use mathlib.Core.List.{List}
-use mathlib.Core.Path.{◌≡◌, refl, sym, ◌∙◌}
-use lib.Dec.{eqb}
-use borrow.Author.Tests.{le-leb}
-use Rattle.definitions.proofs.Columns.{at_zero}
-use Rattle.definitions.proofs.Slots.{allocated_free}
-use Rattle.definitions.specs.Arena.{allocated}
-use Rattle.definitions.specs.Columns.{at}
-use Rattle.definitions.specs.Insert.{nowhere, place_if}
+-- Laws of a link that is found by its pointer or by its slot. Assumes nothing.
+use Prim.Native.Nat.{ℕ}
+use mathlib.Core.Bool.{Bool, true, false, not}
+use mathlib.Core.Path.{◌≡◌, refl, sym, ap, ◌∙◌}
+use native.Mathlib.Omega.{arith}
+use Rattle.definitions.specs.Arena.{Arena, stack_length, allocated}
+use Rattle.definitions.specs.Insert.{Named, by_pointer, by_slot, slot_of, is_there}
+use Rattle.definitions.specs.Read.{Pointer, stale}
+use Rattle.definitions.proofs.Pointers.{there_link}
+use Rattle.definitions.proofs.Shaped.{Shaped}
+use Rattle.definitions.proofs.Slots.{allocated_some, allocated_within}
+use Rattle.chain_traits.specs.Read.{stale_in}
+use Rattle.insert_places.specs.Places.{FoundAt}
 
-pub zero_no_link : (gs : List ℕ) (n : ℕ) {s : ℕ} → s ≡ 0 → allocated gs n s ≡ false
-zero_no_link gs n {s} z = allocated_free gs n s (rw z (at_zero gs))
+-- a stale pointer names no link
+pub pointer_there : (a : Arena) (p : Pointer) → is_there a (by_pointer p) ≡ not (stale_in a.generation (stack_length a) p)
+unfolding is_there stale_in stale
+pointer_there a p = refl
 
-pub within_link : (gs : List ℕ) (n s : ℕ) {g : ℕ} → s ≤ n → g ≡ at gs s → not (eqb g 0) ≡ allocated gs n s
-unfolding allocated
-within_link gs n s l e = rw (e, le-leb s n l) refl
+module _ {limit : ℕ} {a : Arena} (ok : Shaped limit a) where
+  -- a link that is there stands in both link columns
+  found_at : (p : Named) → is_there a p ≡ true → FoundAt a p (slot_of p)
+  found_at p e =
+      let link = there_link a p e in
+      record {
+        there = e;
+        slot = refl;
+        some = allocated_some a.generation (stack_length a) (slot_of p) link;
+        within = omega (arith, allocated_within a.generation (stack_length a) (slot_of p) link, ok.within);
+      }
 
-pub both_lack : (there next prev first second : Bool) → first ≡ there && next → first ≡ true → second ≡ there && prev → (there && (next && prev)) ≡ second
-both_lack true true prev first second e h f = sym f
-both_lack true false prev first second e h f = absurd (true≢false (sym h ∙ e))
-both_lack false next prev first second e h f = absurd (true≢false (sym h ∙ e))
+  pub pointer_found : (p : Pointer) {n : ℕ} {r : Bool} → n ≡ stack_length a → r ≡ stale_in a.generation n p → r ≡ false → FoundAt a (by_pointer p) p.slot
+  unfolding slot_of
+  pointer_found p length e h = found_at (by_pointer p) (pointer_there a p ∙ ap not (sym (rw length at e) ∙ h))
 
-pub one_has : (there : Bool) (ns ps : List ℕ) (s t : ℕ) (first : Bool) → first ≡ there && eqb (at ns s) 0 → first ≡ false
-    → nowhere ≡ place_if (there && (eqb (at ns s) 0 && eqb (at ps t) 0)) s t
-one_has there ns ps s t first e h = go there (eqb (at ns s) 0) (eqb (at ps t) 0) (sym e ∙ h)
-  where
-    go : (there next prev : Bool) → (there && next) ≡ false → nowhere ≡ place_if (there && (next && prev)) s t
-    go true true prev e = absurd (true≢false e)
-    go true false prev e = unfold place_if in refl
-    go false next prev e = unfold place_if in refl
+  pub slot_found : (s : ℕ) {n : ℕ} {r : Bool} → n ≡ stack_length a → r ≡ allocated a.generation n s → r ≡ true → FoundAt a (by_slot s) s
+  unfolding slot_of is_there
+  slot_found s length e h = found_at (by_slot s) (sym (rw length at e) ∙ h)

@@ -1,18 +1,21 @@
--- The code's places as the definitions have them, and what a place asks of a slot (REFERENCE, Insert).
-use Rattle.std.specs.Prelude.{ℕ, ◌≤◌, ◌<◌, ◌≡◌, Bool, true, List, [], ◌∷◌, length}
-use Rattle.definitions.specs.Arena.{arena}
-use Rattle.definitions.specs.Insert.{Named, is_there, Place as Place₁, nowhere, between}
+-- Links that are found, and the code's places as the definitions have them (REFERENCE, Insert).
+use Rattle.std.specs.Prelude.{ℕ, ◌≤◌, ◌<◌, ◌≡◌, true, false, Option, Some, None, MatchOption}
+use Rattle.definitions.specs.Arena.{Arena, capacity}
+use Rattle.definitions.specs.Insert.{Named, slot_of, is_there, Place as Place₁, nowhere, between}
+use Rattle.ptr.specs.declared.Slot.{Slot}
 use Rattle.insert_places.specs.declared.Place.{Place}
-use Rattle.insert_places.specs.declared.Place.TheVariants.{Nowhere, Between}
 
-abbrev pub placed : Place → Place₁
-placed Nowhere = nowhere
-placed (Between u v) = between u.0 v.0
+abbrev pub placed : Option Place → Place₁
+placed None = nowhere
+placed (Some p) = between p.prev.0 p.next.0
 
--- whether what p names is there where gs is the generation column and n the stack length: of an arena, `is_there` reads nothing else
-unfoldable pub there_in : List ℕ → ℕ → Named → Bool
-there_in gs n p = is_there (arena [] [] gs [] (n ∷ [])) p
+-- the link that p names is there, and s is its slot
+pub record FoundAt (a : Arena) (p : Named) (s : ℕ) : Type 0 where
+  pub there : is_there a p ≡ true
+  pub slot : s ≡ slot_of p
+  pub some : 0 < s
+  pub within : s ≤ capacity a
 
--- slot s, if its link is there, stands in the column xs
-abbrev pub Standing : Bool → ℕ → List ℕ → Type 0
-Standing there s xs = there ≡ true → (0 < s) × (s ≤ length xs)
+-- what was found of the link that p names: its slot, or nothing where it is not there
+abbrev pub Found : Arena → Named → Option Slot → Type 0
+Found a p r = MatchOption r (is_there a p ≡ false) (λ s. FoundAt a p s.0)

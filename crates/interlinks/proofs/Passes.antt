@@ -2,7 +2,7 @@
 -- exactly if as many links have a next as have a prev. And it asks no prev whether it is a link: no free slot leads to one. Assumes nothing.
 use Prim.Native.Nat.{ℕ, suc, ◌+◌, ◌-◌, ◌≤◌, ◌<◌}
 use mathlib.Core.Path.{◌≡◌, refl, sym, ap, ◌∙◌}
-use mathlib.Core.Logic.{◌⊎◌, ⊎_elim, ◌↔◌}
+use mathlib.Core.Logic.{◌↔◌}
 use mathlib.Core.Bool.{true, false, not, ◌&&◌, true≢false}
 use mathlib.Core.List.{List}
 use native.Mathlib.Omega.{arith}
@@ -13,13 +13,15 @@ use lib.Dec.{eqb, leb}
 use borrow.Author.Tests.{eqb-true, eq-eqb, leb-true, le-leb, lt-leb}
 use Rattle.definitions.specs.Columns.{at, keep, slots_from, first_or}
 use Rattle.definitions.specs.Arena.{allocated}
-use Rattle.definitions.specs.Check.{names_back, neighbours_fine, broken_slots}
+use Rattle.definitions.specs.Check.{names_back, broken_slots}
 use Rattle.definitions.proofs.Tests.{by_test, not_eq, both, both_first, both_second, not_first, not_second, the_first, the_second}
 use Rattle.definitions.proofs.Columns.{at_suc, at_place}
 use Rattle.definitions.proofs.Slots.{allocated_within, allocated_yes, allocated_free, length_slots, keep_more, keep_same, keep_parts}
 use Rattle.definitions.proofs.Interlinks.{names_back_lem, does_name_back}
 use Rattle.definitions.proofs.Broken.{first_is, none_first}
-use Rattle.interlinks.specs.Sides.{FreeStaysFree, leads_to, side_fine, SidesFine, PrevSides, NextSides}
+use Rattle.std.specs.Prelude.{Option, None, Some}
+use Rattle.std.specs.Option.{option_or}
+use Rattle.interlinks.specs.Sides.{FreeStaysFree, leads_to, side_fine, SidesFine, PrevEnd, NextEnd, NextSides, Finds}
 use Rattle.interlinks.proofs.Sides.{fine_both, prev_broken, next_broken, has, number, has_yes, other_side, as_many_sides}
 
 -- ---- a slot, as the code reads it one place lower
@@ -124,9 +126,11 @@ pub record Going (ps ns gs : List ℕ) (n nexts prevs i : ℕ) : Type 0 where
 pub going_none : (ps ns gs : List ℕ) (n : ℕ) → Going ps ns gs n 0 0 0
 going_none ps ns gs n = record { within = omega arith; nexts_so_far = sym (number_none gs n ns); prevs_so_far = sym (number_none gs n ps); fine = λ x p h. absurd (omega arith) }
 
-pub going_most : {ps ns gs : List ℕ} {n nexts prevs i : ℕ} → Going ps ns gs n nexts prevs i → (nexts ≤ i) × (prevs ≤ i)
-going_most {ps} {ns} {gs} {n} {nexts} {prevs} {i} going =
-    (omega (arith, going.nexts_so_far, number_most gs n ns i), omega (arith, going.prevs_so_far, number_most gs n ps i))
+pub nexts_most : {ps ns gs : List ℕ} {n nexts prevs i : ℕ} → Going ps ns gs n nexts prevs i → nexts ≤ i
+nexts_most {ps} {ns} {gs} {n} {nexts} {prevs} {i} going = omega (arith, going.nexts_so_far, number_most gs n ns i)
+
+pub prevs_most : {ps ns gs : List ℕ} {n nexts prevs i : ℕ} → Going ps ns gs n nexts prevs i → prevs ≤ i
+prevs_most {ps} {ns} {gs} {n} {nexts} {prevs} {i} going = omega (arith, going.prevs_so_far, number_most gs n ps i)
 
 -- a free slot
 pub going_free : {ps ns gs : List ℕ} {n nexts prevs i : ℕ} → Going ps ns gs n nexts prevs i → i < n → get_or gs i 0 ≡ 0 → Going ps ns gs n nexts prevs (i + 1)
@@ -137,43 +141,53 @@ going_free {ps} {ns} {gs} {n} {nexts} {prevs} {i} going h g = record {
   fine = sides_more ps ns gs n (i + 1) going.fine (side_free ps ns gs n i g);
 }
 
--- a link: `more` is the count of nexts, with this link counted if it has one
-module _ {ps ns gs : List ℕ} {n nexts prevs i more : ℕ} (going : Going ps ns gs n nexts prevs i) (h : i < n) (g : get_or gs i 0 ≡ 0 → ⊥)
-    (counted : ((get_or ns i 0 ≡ 0 → ⊥) × (more ≡ nexts + 1)) ⊎ ((get_or ns i 0 ≡ 0) × (more ≡ nexts))) where
-  counted_more : more ≡ number gs n ns (i + 1)
-  counted_more =
-      ⊎_elim
-      (λ w. w.1 ∙ ap (λ (k : ℕ). k + 1) going.nexts_so_far ∙ sym (number_with gs n ns i h g w.0))
-      (λ w. w.1 ∙ going.nexts_so_far ∙ sym (number_without gs n ns i w.0))
-      counted
+-- a link, with a next or without, and with a prev that leads to it or without
+module _ {ps ns gs : List ℕ} {n nexts prevs i : ℕ} (going : Going ps ns gs n nexts prevs i) (h : i < n) (g : get_or gs i 0 ≡ 0 → ⊥) where
+  more_nexts : (get_or ns i 0 ≡ 0 → ⊥) → nexts + 1 ≡ number gs n ns (i + 1)
+  more_nexts d = ap (λ (k : ℕ). k + 1) going.nexts_so_far ∙ sym (number_with gs n ns i h g d)
 
-  -- without a prev, and with one that leads to it
-  pub going_start : get_or ps i 0 ≡ 0 → Going ps ns gs n more prevs (i + 1)
-  going_start z = record {
+  same_nexts : get_or ns i 0 ≡ 0 → nexts ≡ number gs n ns (i + 1)
+  same_nexts z = going.nexts_so_far ∙ sym (number_without gs n ns i z)
+
+  without_prev : (more : ℕ) → more ≡ number gs n ns (i + 1) → get_or ps i 0 ≡ 0 → Going ps ns gs n more prevs (i + 1)
+  without_prev more counted z = record {
     within = omega arith;
-    nexts_so_far = counted_more;
+    nexts_so_far = counted;
     prevs_so_far = going.prevs_so_far ∙ sym (number_without gs n ps i z);
     fine = sides_more ps ns gs n (i + 1) going.fine (side_without ps ns gs n i z);
   }
 
-  pub going_led : FreeStaysFree ns gs n → (get_or ps i 0 ≡ 0 → ⊥) → leads_to ns n (get_or ps i 0) (i + 1) ≡ true → Going ps ns gs n more (prevs + 1) (i + 1)
-  going_led stays d e = record {
+  with_prev : (more : ℕ) → more ≡ number gs n ns (i + 1) → FreeStaysFree ns gs n → (get_or ps i 0 ≡ 0 → ⊥) → leads_to ns n (get_or ps i 0) (i + 1) ≡ true → Going ps ns gs n more (prevs + 1) (i + 1)
+  with_prev more counted stays d e = record {
     within = omega arith;
-    nexts_so_far = counted_more;
+    nexts_so_far = counted;
     prevs_so_far = ap (λ (k : ℕ). k + 1) going.prevs_so_far ∙ sym (number_with gs n ps i h g d);
     fine = sides_more ps ns gs n (i + 1) going.fine (side_led ps ns gs n i stays h g d e);
   }
+
+  pub going_start : get_or ps i 0 ≡ 0 → (get_or ns i 0 ≡ 0 → ⊥) → Going ps ns gs n (nexts + 1) prevs (i + 1)
+  going_start z d = without_prev _ (more_nexts d) z
+
+  pub going_alone : get_or ps i 0 ≡ 0 → get_or ns i 0 ≡ 0 → Going ps ns gs n nexts prevs (i + 1)
+  going_alone z e = without_prev _ (same_nexts e) z
+
+  module _ (stays : FreeStaysFree ns gs n) (some : get_or ps i 0 ≡ 0 → ⊥) (led : leads_to ns n (get_or ps i 0) (i + 1) ≡ true) where
+    pub going_middle : (get_or ns i 0 ≡ 0 → ⊥) → Going ps ns gs n (nexts + 1) (prevs + 1) (i + 1)
+    going_middle d = with_prev _ (more_nexts d) stays some led
+
+    pub going_end : get_or ns i 0 ≡ 0 → Going ps ns gs n nexts (prevs + 1) (i + 1)
+    going_end e = with_prev _ (same_nexts e) stays some led
 
 -- ---- what the passes answer
 
 module _ (ps ns gs : List ℕ) (n : ℕ) where
   -- the prev side fails at slot i + 1 and at none before it
-  pub prev_stopped : {nexts prevs i : ℕ} → Going ps ns gs n nexts prevs i → i < n → (get_or gs i 0 ≡ 0 → ⊥) → (get_or ps i 0 ≡ 0 → ⊥) → leads_to ns n (get_or ps i 0) (i + 1) ≡ false → PrevSides ps ns gs n (i + 1)
+  pub prev_stopped : {nexts prevs i : ℕ} → Going ps ns gs n nexts prevs i → i < n → (get_or gs i 0 ≡ 0 → ⊥) → (get_or ps i 0 ≡ 0 → ⊥) → leads_to ns n (get_or ps i 0) (i + 1) ≡ false → PrevEnd ps ns gs n (i + 1)
   prev_stopped {nexts} {prevs} {i} going h g d e = record {
+    some = omega arith;
     within = omega arith;
-    none = λ z. absurd (omega arith);
     lower = going.fine;
-    fails = λ p l. side_not_led ps ns gs n i h g d e;
+    fails = λ l. side_not_led ps ns gs n i h g d e;
     other = λ l. absurd (omega arith);
   }
 
@@ -188,40 +202,56 @@ module _ (ps ns gs : List ℕ) (n : ℕ) where
     same_numbers : (nexts ≡ prevs) ↔ (number gs n ns n ≡ number gs n ps n)
     same_numbers = (λ e. ap (number gs n ns) (sym done) ∙ sym going.nexts_so_far ∙ e ∙ going.prevs_so_far ∙ ap (number gs n ps) done, λ e. going.nexts_so_far ∙ ap (number gs n ns) done ∙ e ∙ ap (number gs n ps) (sym done) ∙ sym going.prevs_so_far)
 
-    pub prev_passed : nexts ≡ prevs → PrevSides ps ns gs n 0
-    prev_passed e = record {
-      within = omega arith;
-      none = λ z. (all_fine_lem, other_side ps ns gs n all_fine_lem (omega (arith, same_numbers.0 e)));
-      lower = λ x p h. absurd (omega arith);
-      fails = λ p. absurd (omega arith);
-      other = λ l. absurd (omega arith);
-    }
+    pub prev_passed : nexts ≡ prevs → SidesFine ps ns gs n (n + 1) × SidesFine ns ps gs n (n + 1)
+    prev_passed e = (all_fine_lem, other_side ps ns gs n all_fine_lem (omega (arith, same_numbers.0 e)))
 
-    pub prev_passed_alone : (nexts ≡ prevs → ⊥) → PrevSides ps ns gs n (n + 1)
+    pub prev_passed_alone : (nexts ≡ prevs → ⊥) → PrevEnd ps ns gs n (n + 1)
     prev_passed_alone d = record {
+      some = omega arith;
       within = omega arith;
-      none = λ z. absurd (omega arith);
       lower = all_fine_lem;
-      fails = λ p l. absurd (omega arith);
+      fails = λ l. absurd (omega arith);
       other = λ l next. d (same_numbers.1 (as_many_sides ps ns gs n all_fine_lem next));
     }
 
-  -- both passes: rule 11 fails nowhere, or first where the second pass ended
-  pub passes_none : (m : ℕ) → PrevSides ps ns gs n m → m ≡ 0 → first_or 0 (broken_slots ps ns gs n) ≡ 0
-  passes_none m s z = let sides = s.none z in none_first ps ns gs n (λ x p h. fine_both ps ns gs n x (sides.0 x p (omega arith)) (sides.1 x p (omega arith)))
+  -- both passes: rule 11 fails nowhere, or first where the second pass ended, or else the first
+  pub passes_none : SidesFine ps ns gs n (n + 1) × SidesFine ns ps gs n (n + 1) → first_or 0 (broken_slots ps ns gs n) ≡ 0
+  passes_none sides = none_first ps ns gs n (λ x p h. fine_both ps ns gs n x (sides.0 x p (omega arith)) (sides.1 x p (omega arith)))
 
-  pub passes_first : (m r : ℕ) → PrevSides ps ns gs n m → NextSides ps ns gs n m r → first_or 0 (broken_slots ps ns gs n) ≡ r
-  passes_first m r s t = first_is ps ns gs n r record { some = t.some; within = within; fails = fails; lower = λ y p h. fine_both ps ns gs n y (s.lower y p (omega (arith, t.within))) (t.lower y p h) }
-    where
-      ended : r ≡ m → r ≤ n
-      ended e = elim (dec_le r n) [ yes l ↦ l | no l ↦ absurd (s.other (omega arith) (λ x p h. t.lower x p (omega arith))) ]
+  module _ (m : ℕ) (s : PrevEnd ps ns gs n m) where
+    passes_next : (r : ℕ) → NextEnd ps ns gs n m r → Finds n (first_or 0 (broken_slots ps ns gs n)) (Some r)
+    passes_next r t = (sym first, t.some, omega (arith, t.within, s.within))
+      where
+        first : first_or 0 (broken_slots ps ns gs n) ≡ r
+        first = first_is ps ns gs n r (record {
+          some = t.some;
+          within = omega (arith, t.within, s.within);
+          fails = next_broken ps ns gs n r t.fails;
+          lower = λ y p h. fine_both ps ns gs n y (s.lower y p (omega (arith, t.within))) (t.lower y p h);
+        })
 
-      within : r ≤ n
-      within = elim (ℕ_discrete r m) [ yes e ↦ ended e | no d ↦ omega (arith, t.within, s.within) ]
+    passes_prev : SidesFine ns ps gs n m → Finds n (first_or 0 (broken_slots ps ns gs n)) (Some m)
+    passes_prev t = (sym first, s.some, within)
+      where
+        within : m ≤ n
+        within = elim (dec_le m n) [ yes l ↦ l | no l ↦ absurd (s.other (omega arith) (λ x p h. t x p (omega arith))) ]
 
-      fails : neighbours_fine ps ns gs n r ≡ false
-      fails =
-          elim (ℕ_discrete r m) [
-            | yes e ↦ prev_broken ps ns gs n r (rw (← e) at (s.fails (omega (arith, t.some)) (omega (arith, within))))
-            | no d ↦ next_broken ps ns gs n r (t.fails (omega (arith, t.within)))
-          ]
+        first : first_or 0 (broken_slots ps ns gs n) ≡ m
+        first = first_is ps ns gs n m (record {
+          some = s.some;
+          within = within;
+          fails = prev_broken ps ns gs n m (s.fails within);
+          lower = λ y p h. fine_both ps ns gs n y (s.lower y p h) (t y p h);
+        })
+
+    pub passes_first : (r : Option ℕ) → NextSides ps ns gs n m r → Finds n (first_or 0 (broken_slots ps ns gs n)) (option_or r (Some m))
+    passes_first None t = passes_prev t
+    passes_first (Some r) t = passes_next r t
+
+pub ruleset sides_read = (side_none, side_no_link, side_named)
+
+pub ruleset leading = (leads_past, leads_read)
+
+pub ruleset ends = (passes_none, passes_first)
+
+pub ruleset going_on = (going_none, nexts_most, prevs_most, going_free, going_start, going_alone, going_middle, going_end, prev_stopped, prev_passed, prev_passed_alone)

@@ -1,6 +1,6 @@
 -- Rule 11 on one side of a slot, and what the two passes over the sides answer. A side is told by its columns: forth, which names the neighbour, and
 -- back, in which the neighbour must name the slot; prev and next for the prev side, next and prev for the next side.
-use Rattle.std.specs.Prelude.{ℕ, ◌+◌, ◌≤◌, ◌<◌, ◌≡◌, Bool, true, false, not, ◌&&◌, ◌||◌, List, eqb, leb}
+use Rattle.std.specs.Prelude.{ℕ, ◌+◌, ◌≤◌, ◌<◌, ◌≡◌, Bool, true, false, not, ◌&&◌, ◌||◌, List, eqb, leb, Option, None, Some}
 use Rattle.definitions.specs.Columns.{at}
 use Rattle.definitions.specs.Arena.{allocated}
 use Rattle.definitions.specs.Check.{names_back}
@@ -21,18 +21,32 @@ side_fine forth back gs n x = not (allocated gs n x) || names_back back gs n x (
 abbrev pub SidesFine : List ℕ → List ℕ → List ℕ → ℕ → ℕ → Type 0
 SidesFine forth back gs n m = (x : ℕ) → 0 < x → x < m → side_fine forth back gs n x ≡ true
 
--- the answer r of the pass over the prev sides: 0 where rule 11 holds at each of the n slots; else the lowest slot whose prev side fails, or n + 1 where
--- no prev side fails but some next side does
-pub record PrevSides (ps ns gs : List ℕ) (n r : ℕ) : Type 0 where
+-- the pass over the prev sides ended with slot r: the lowest slot whose prev side fails, or n + 1 where no prev side fails but some next side does
+pub record PrevEnd (ps ns gs : List ℕ) (n r : ℕ) : Type 0 where
+  pub some : 0 < r
   pub within : r ≤ n + 1
-  pub none : r ≡ 0 → SidesFine ps ns gs n (n + 1) × SidesFine ns ps gs n (n + 1)
   pub lower : SidesFine ps ns gs n r
-  pub fails : 0 < r → r ≤ n → side_fine ps ns gs n r ≡ false
+  pub fails : r ≤ n → side_fine ps ns gs n r ≡ false
   pub other : n < r → SidesFine ns ps gs n (n + 1) → ⊥
 
--- the answer r of the pass over the next sides below slot m: the lowest slot whose next side fails, or m where none does
-pub record NextSides (ps ns gs : List ℕ) (n m r : ℕ) : Type 0 where
+-- its answer: none where rule 11 holds at each of the n slots; else with which slot it ended
+abbrev pub PrevSides : List ℕ → List ℕ → List ℕ → ℕ → Option ℕ → Type 0
+PrevSides ps ns gs n None = SidesFine ps ns gs n (n + 1) × SidesFine ns ps gs n (n + 1)
+PrevSides ps ns gs n (Some r) = PrevEnd ps ns gs n r
+
+-- r is the lowest slot below m whose next side fails
+pub record NextEnd (ps ns gs : List ℕ) (n m r : ℕ) : Type 0 where
   pub some : 0 < r
-  pub within : r ≤ m
+  pub within : r < m
   pub lower : SidesFine ns ps gs n r
-  pub fails : r < m → side_fine ns ps gs n r ≡ false
+  pub fails : side_fine ns ps gs n r ≡ false
+
+-- the answer of the pass over the next sides below slot m: the lowest slot whose next side fails, or none
+abbrev pub NextSides : List ℕ → List ℕ → List ℕ → ℕ → ℕ → Option ℕ → Type 0
+NextSides ps ns gs n m None = SidesFine ns ps gs n m
+NextSides ps ns gs n m (Some r) = NextEnd ps ns gs n m r
+
+-- the answer is slot k, one of n, or none where k is 0
+abbrev pub Finds : ℕ → ℕ → Option ℕ → Type 0
+Finds n k None = k ≡ 0
+Finds n k (Some s) = (s ≡ k) × (0 < s) × (s ≤ n)

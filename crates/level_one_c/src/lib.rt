@@ -10,10 +10,13 @@ ghost use Rattle.definitions.specs.Read.{pointer};
 ghost use Rattle.definitions.specs.Clock.{told, line_of_dot, line_dots};
 
 use answers::{Answer, LinkNoGenResult};
+use chain_iterators::ChainPtrAdvancer;
+use lent::LentArena;
 use level_one_due::DueResult;
 use level_one_lines::{LineDotsResult, LineResult};
 use level_one_read::{LinkResult, NeighborsResult};
 use level_one_walk::{StepResult, WalkResult};
+use ptr::{Ptr, Slot};
 
 // Whether the lent arena can be worked with: 0, or the number of the first rule that fails. Every other call makes this check first
 // (REFERENCE, Check).
@@ -27,7 +30,13 @@ pub extern "C" fn chain_arena_check(
 ) -> Answer
     ensures { Answered Check (at_entry prev next generation payload header) [] result [] (at_exit prev next generation payload header) [] }
 {
-    level_one_read::chain_arena_check(prev, next, generation, payload, header)
+    level_one_read::chain_arena_check(LentArena {
+        prev,
+        next,
+        generation,
+        payload,
+        header,
+    })
 }
 
 // The link at p and its neighbours with their generations (REFERENCE, Reading).
@@ -45,13 +54,14 @@ pub extern "C" fn chain_arena_get_link(
         (at_entry prev next generation payload header) [] result.answer (result.prev ∷ result.prev_generation ∷ result.next ∷ result.next_generation ∷ result.payload ∷ []) (at_exit prev next generation payload header) [] }
 {
     level_one_read::chain_arena_get_link(
-        prev,
-        next,
-        generation,
-        payload,
-        header,
-        p_slot,
-        p_generation,
+        LentArena {
+            prev,
+            next,
+            generation,
+            payload,
+            header,
+        },
+        Ptr::new(p_slot, p_generation),
     )
 }
 
@@ -70,13 +80,14 @@ pub extern "C" fn chain_arena_get_link_no_gen(
         (at_entry prev next generation payload header) [] result.answer (result.prev ∷ result.next ∷ result.payload ∷ []) (at_exit prev next generation payload header) [] }
 {
     level_one_read::chain_arena_get_link_no_gen(
-        prev,
-        next,
-        generation,
-        payload,
-        header,
-        p_slot,
-        p_generation,
+        LentArena {
+            prev,
+            next,
+            generation,
+            payload,
+            header,
+        },
+        Ptr::new(p_slot, p_generation),
     )
 }
 
@@ -97,15 +108,15 @@ pub extern "C" fn chain_arena_are_neighbors(
         (at_entry prev next generation payload header) [] result.answer (result.yes ∷ []) (at_exit prev next generation payload header) [] }
 {
     level_one_read::chain_arena_are_neighbors(
-        prev,
-        next,
-        generation,
-        payload,
-        header,
-        p_prev_slot,
-        p_prev_generation,
-        p_next_slot,
-        p_next_generation,
+        LentArena {
+            prev,
+            next,
+            generation,
+            payload,
+            header,
+        },
+        Ptr::new(p_prev_slot, p_prev_generation),
+        Ptr::new(p_next_slot, p_next_generation),
     )
 }
 
@@ -124,13 +135,14 @@ pub extern "C" fn chain_arena_walk_start(
         (at_entry prev next generation payload header) [] result.answer (result.start ∷ result.position ∷ result.direction ∷ result.left ∷ []) (at_exit prev next generation payload header) [] }
 {
     level_one_walk::chain_arena_walk_start(
-        prev,
-        next,
-        generation,
-        payload,
-        header,
-        p_slot,
-        p_generation,
+        LentArena {
+            prev,
+            next,
+            generation,
+            payload,
+            header,
+        },
+        Ptr::new(p_slot, p_generation),
     )
 }
 
@@ -151,7 +163,19 @@ pub extern "C" fn chain_arena_walk_step(
         (at_entry prev next generation payload header) (start ∷ position ∷ direction ∷ left ∷ []) result.answer (result.slot ∷ result.generation ∷ []) (at_exit prev next generation payload header) (result.start ∷ result.position ∷ result.direction ∷ result.left ∷ []) }
 {
     level_one_walk::chain_arena_walk_step(
-        prev, next, generation, payload, header, start, position, direction, left,
+        LentArena {
+            prev,
+            next,
+            generation,
+            payload,
+            header,
+        },
+        ChainPtrAdvancer {
+            init: Slot(start),
+            ptr: Slot(position),
+            switch: direction,
+            max_advances: left,
+        },
     )
 }
 
@@ -188,13 +212,14 @@ pub extern "C" fn chain_arena_due_count(
         (at_entry prev next generation payload header) [] result.answer (result.count ∷ []) (at_exit prev next generation payload header) [] }
 {
     level_one_due::chain_arena_due_count(
-        prev,
-        next,
-        generation,
-        payload,
-        header,
-        p_slot,
-        p_generation,
+        LentArena {
+            prev,
+            next,
+            generation,
+            payload,
+            header,
+        },
+        Ptr::new(p_slot, p_generation),
         from,
         to,
     )
@@ -219,13 +244,14 @@ pub extern "C" fn chain_arena_due_events(
         (at_entry prev next generation payload header) report.old result.answer (result.count ∷ []) (at_exit prev next generation payload header) report.new }
 {
     level_one_due::chain_arena_due_events(
-        prev,
-        next,
-        generation,
-        payload,
-        header,
-        p_slot,
-        p_generation,
+        LentArena {
+            prev,
+            next,
+            generation,
+            payload,
+            header,
+        },
+        Ptr::new(p_slot, p_generation),
         from,
         to,
         report,

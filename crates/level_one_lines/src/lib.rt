@@ -4,7 +4,8 @@
 ghost use Rattle.std.specs.Prelude.{[], ◌∷◌, ◌≡◌};
 ghost use Rattle.definitions.specs.Clock.{told, line_of_dot, line_dots};
 
-use frame_clock::{DOTS, Dot, LINES, Line};
+use frame_clock::{Dot, Line};
+use refusals::Refusal;
 
 // The line of a dot.
 #[repr(C)]
@@ -24,36 +25,40 @@ pub struct LineDotsResult {
 }
 
 // The line that a dot of the frame is in (REFERENCE, Frame clock).
+#[tactic(auto, using(std::proofs::lemmas::Bool::Decides::nat_tests), unfolding(definitions::specs::Clock::line_of_dot))]
 pub fn chain_arena_line_of_dot(dot: u32) -> LineResult
     ensures { told result.number (result.line ∷ []) ≡ line_of_dot dot }
 {
-    if dot >= DOTS {
-        return LineResult {
-            number: 19,
+    match Dot::new(dot) {
+        Some(dot) => LineResult {
+            number: 0,
+            line: dot.line().index,
+        },
+        None => LineResult {
+            number: Refusal::OutOfFrame.number(),
             line: 0,
-        };
-    }
-    LineResult {
-        number: 0,
-        line: Dot(dot).line().0,
+        },
     }
 }
 
 // The first and the last dot of a line of the frame (REFERENCE, Frame clock).
+#[tactic(auto, using(std::proofs::lemmas::Bool::Decides::nat_tests), unfolding(definitions::specs::Clock::line_dots))]
 pub fn chain_arena_line_dots(line: u32) -> LineDotsResult
     ensures { told result.number (result.first ∷ result.last ∷ []) ≡ line_dots line }
 {
-    if line >= LINES {
-        return LineDotsResult {
-            number: 19,
+    match Line::new(line) {
+        Some(line) => {
+            let dots = line.dots();
+            LineDotsResult {
+                number: 0,
+                first: dots.first.index,
+                last: dots.last.index,
+            }
+        }
+        None => LineDotsResult {
+            number: Refusal::OutOfFrame.number(),
             first: 0,
             last: 0,
-        };
-    }
-    let dots = Line(line).dots();
-    LineDotsResult {
-        number: 0,
-        first: dots.first.0,
-        last: dots.last.0,
+        },
     }
 }

@@ -1,15 +1,22 @@
 // Level One, the walk along a chain, as a host calls it through level_one_c.
 #![tactic(auto)]
 
-ghost use Rattle.std.specs.Prelude.{[], ◌∷◌};
-ghost use Rattle.definitions.specs.Lent.{at_entry, at_exit};
-ghost use Rattle.definitions.specs.Read.{pointer};
-ghost use Rattle.definitions.specs.Calls.{WalkStart, WalkStep};
-ghost use Rattle.answers.specs.Answered.{Answered};
+ghost use Rattle.std.specs.Prelude.{◌≡◌, ℕ, List, [], ◌∷◌};
+ghost use Rattle.definitions.specs.Arena.{Arena, capacity_limit, largest_generation};
+ghost use Rattle.definitions.specs.Walk.{state_words};
+ghost use Rattle.definitions.specs.Calls.{WalkStart, WalkStep, reply_to};
+ghost use Rattle.ptr.specs.Pointers.{pointer_of};
+ghost use Rattle.lent.specs.Arenas.{lent_of};
+ghost use Rattle.chain_iterators.specs.Walk.{walk_of, start_reply};
+ghost use Rattle.answers.specs.Answered.{replied, Answered};
+ghost use Rattle.level_one_walk.specs.Results.{step_reply};
 
-use answers::{Answer, checked};
-use chain_iterators::{ChainPtrAdvancer, Started, advancer_chain};
-use ptr::{Gen, Ptr, Slot};
+use answers::Answer;
+use chain_arena::check;
+use chain_iterators::{ChainPtrAdvancer, advancer_chain};
+use lent::LentArena;
+use ptr::Ptr;
+use refusals::Refusal;
 
 // The state of a walk that has begun.
 #[repr(C)]
@@ -20,6 +27,30 @@ pub struct WalkResult {
     pub position: u32,
     pub direction: u32,
     pub left: u32,
+}
+
+// The walk, or the refusal.
+impl From<Result<ChainPtrAdvancer, Refusal>> for WalkResult {
+    ghost from_gives = { λ r a. (b : Arena) (l : List ℕ) → replied a.answer (a.start ∷ a.position ∷ a.direction ∷ a.left ∷ []) b l ≡ start_reply r b l };
+
+    fn from(started: Result<ChainPtrAdvancer, Refusal>) -> WalkResult {
+        match started {
+            Ok(walk) => WalkResult {
+                answer: Answer::of(0),
+                start: walk.init.0,
+                position: walk.ptr.0,
+                direction: walk.switch,
+                left: walk.max_advances,
+            },
+            Err(refusal) => WalkResult {
+                answer: Answer::from(refusal),
+                start: 0,
+                position: 0,
+                direction: 0,
+                left: 0,
+            },
+        }
+    }
 }
 
 // What a step answers, slot 0 and generation 0 for none, and the next state.
@@ -35,93 +66,59 @@ pub struct StepResult {
     pub left: u32,
 }
 
-// Begins a walk at p (REFERENCE, Walk).
-pub fn chain_arena_walk_start(
-    prev: &[u32],
-    next: &[u32],
-    generation: &[u32],
-    payload: &[u32],
-    header: &[u32],
-    p_slot: u32,
-    p_generation: u32,
-) -> WalkResult
-    ensures { Answered (WalkStart (pointer p_slot p_generation))
-        (at_entry prev next generation payload header) [] result.answer (result.start ∷ result.position ∷ result.direction ∷ result.left ∷ []) (at_exit prev next generation payload header) [] }
-{
-    let answer = checked(prev, next, generation, payload, header);
-    if answer.number != 0 {
-        return WalkResult {
-            answer: answer,
-            start: 0,
-            position: 0,
-            direction: 0,
-            left: 0,
+impl StepResult {
+    // What a step answered, or the refusal; and the state after it.
+    fn of(stepped: Result<Option<Ptr>, Refusal>, walk: ChainPtrAdvancer) -> StepResult
+        ensures { (a : Arena) → replied result.answer (result.slot ∷ result.generation ∷ []) a (result.start ∷ result.position ∷ result.direction ∷ result.left ∷ [])
+            ≡ step_reply stepped walk a }
+    {
+        let (answer, p) = match stepped {
+            Ok(Some(p)) => (Answer::of(0), p),
+            Ok(None) => (Answer::of(0), Ptr::new(0, 0)),
+            Err(refusal) => (Answer::from(refusal), Ptr::new(0, 0)),
         };
-    }
-    let p = Ptr {
-        inx: Slot(p_slot),
-        generation: Gen(p_generation),
-    };
-    match advancer_chain(prev, next, generation, payload, header, p) {
-        Started::Stale => WalkResult {
-            answer: Answer::of(12),
-            start: 0,
-            position: 0,
-            direction: 0,
-            left: 0,
-        },
-        Started::At(state) => WalkResult {
-            answer: Answer::of(0),
-            start: state.init,
-            position: state.ptr,
-            direction: state.switch,
-            left: state.max_advances,
-        },
+        StepResult {
+            answer: answer,
+            slot: p.inx.0,
+            generation: p.generation.0,
+            start: walk.init.0,
+            position: walk.ptr.0,
+            direction: walk.switch,
+            left: walk.max_advances,
+        }
     }
 }
 
-// One step of a walk: the link at the position, or none, and the next state. A refused step gives its state back as it got it (REFERENCE, Walk).
-pub fn chain_arena_walk_step(
-    prev: &[u32],
-    next: &[u32],
-    generation: &[u32],
-    payload: &[u32],
-    header: &[u32],
-    start: u32,
-    position: u32,
-    direction: u32,
-    left: u32,
-) -> StepResult
-    ensures { Answered WalkStep
-        (at_entry prev next generation payload header) (start ∷ position ∷ direction ∷ left ∷ []) result.answer (result.slot ∷ result.generation ∷ []) (at_exit prev next generation payload header) (result.start ∷ result.position ∷ result.direction ∷ result.left ∷ []) }
+// Begins a walk at p (REFERENCE, Walk).
+pub fn chain_arena_walk_start(arena: LentArena<'_>, p: Ptr) -> WalkResult
+    ensures { Answered (WalkStart (pointer_of p)) (lent_of arena.entry) [] result.answer (result.start ∷ result.position ∷ result.direction ∷ result.left ∷ []) (lent_of arena.entry) [] }
 {
-    let answer = checked(prev, next, generation, payload, header);
-    if answer.number != 0 {
-        return StepResult {
-            answer: answer,
-            slot: 0,
-            generation: 0,
-            start: start,
-            position: position,
-            direction: direction,
-            left: left,
-        };
-    }
-    let walk = ChainPtrAdvancer {
-        init: start,
-        ptr: position,
-        switch: direction,
-        max_advances: left,
-    };
-    let advanced = walk.advance(prev, next, generation, payload, header);
-    let after = advanced.state;
-    StepResult {
-        answer: Answer::of(0),
-        slot: advanced.slot,
-        generation: advanced.generation,
-        start: after.init,
-        position: after.ptr,
-        direction: after.switch,
-        left: after.max_advances,
-    }
+    WalkResult::from(walk_from(arena, p))
+}
+
+// The same, or why the call is refused.
+#[tactic(auto, using(answers::proofs::Exports::replies_refused, answers::proofs::Exports::replies_passed), unfolding(definitions::specs::Calls::accepted))]
+fn walk_from(arena: LentArena<'_>, p: Ptr) -> Result<ChainPtrAdvancer, Refusal>
+    ensures { start_reply result (lent_of arena.entry) []
+        ≡ reply_to capacity_limit largest_generation (WalkStart (pointer_of p)) (lent_of arena.entry) [] }
+{
+    advancer_chain(check(arena)?.arena(), p)
+}
+
+// One step of a walk: the link at the position, or none, and the next state. A refused step gives its state back as it got it (REFERENCE, Walk).
+pub fn chain_arena_walk_step(arena: LentArena<'_>, mut walk: ChainPtrAdvancer) -> StepResult
+    ensures { Answered WalkStep (lent_of arena.entry) (state_words (walk_of walk)) result.answer (result.slot ∷ result.generation ∷ []) (lent_of arena.entry) (result.start ∷ result.position ∷ result.direction ∷ result.left ∷ []) }
+{
+    let stepped = step(arena, &mut walk);
+    StepResult::of(stepped, walk)
+}
+
+// What the walk's step answers, or why the call is refused.
+#[tactic(auto, using(answers::proofs::Exports::replies_refused, answers::proofs::Exports::replies_passed), unfolding(definitions::specs::Calls::accepted, definitions::specs::Walk::walk_step))]
+fn step(arena: LentArena<'_>, walk: &mut ChainPtrAdvancer) -> Result<Option<Ptr>, Refusal>
+    ensures { step_reply result walk.new (lent_of arena.entry)
+        ≡ reply_to capacity_limit largest_generation WalkStep (lent_of arena.entry) (state_words (walk_of walk.old)) }
+{
+    let checked = check(arena)?;
+    Ok(walk.advance(checked.arena()))
 }

@@ -8,6 +8,7 @@ ghost use Rattle.definitions.specs.Calls.{CompressWith, CompressCanonical};
 ghost use Rattle.answers.specs.Answered.{Answered};
 
 use answers::Answer;
+use lent::ArenaMut;
 
 // Moves the links to the front in the order of their slots, in a new generation, and reports for each its old slot and generation and its new ones.
 // Reset, where it is not 0, makes the generation 2 (REFERENCE, Order-preserving compression).
@@ -25,7 +26,15 @@ pub extern "C" fn chain_arena_compress_with(
         (arena prev.old next.old generation.old payload.old header.old) report.old result [] (arena prev.new next.new generation.new payload.new header.new) report.new }
 {
     level_three_compress_with::chain_arena_compress_with(
-        prev, next, generation, payload, header, reset, report,
+        &mut ArenaMut {
+            prev,
+            next,
+            generation,
+            payload,
+            header,
+        },
+        reset,
+        report,
     )
 }
 
@@ -45,6 +54,14 @@ pub extern "C" fn chain_arena_compress_canonical(
         (arena prev.old next.old generation.old payload.old header.old) where_from.old result [] (arena prev.new next.new generation.new payload.new header.new) where_from.new }
 {
     level_three_compress_canonical::chain_arena_compress_canonical(
-        prev, next, generation, payload, header, reset, where_from,
+        &mut ArenaMut {
+            prev,
+            next,
+            generation,
+            payload,
+            header,
+        },
+        reset,
+        where_from,
     )
 }

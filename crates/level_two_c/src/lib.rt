@@ -9,8 +9,10 @@ ghost use Rattle.definitions.specs.Calls.{Connect, BreakPrev, BreakNext, Exchang
 ghost use Rattle.answers.specs.Answered.{Answered};
 
 use answers::{Answer, LinkNoGenResult};
+use lent::{ArenaMut, HeaderMut, LinksMut};
 use level_two_drain::DrainResult;
 use level_two_insert::InsertResult;
+use ptr::Ptr;
 
 // Joins the end p_prev to the start p_next (REFERENCE, Connect).
 #[unsafe(no_mangle)]
@@ -29,15 +31,15 @@ pub extern "C" fn chain_arena_connect(
         (arena prev.old next.old generation.now payload.now header.now) [] result [] (arena prev.new next.new generation.now payload.now header.now) [] }
 {
     level_two_edits::chain_arena_connect(
-        prev,
-        next,
-        generation,
-        payload,
-        header,
-        p_prev_slot,
-        p_prev_generation,
-        p_next_slot,
-        p_next_generation,
+        &mut LinksMut {
+            prev,
+            next,
+            generation,
+            payload,
+            header,
+        },
+        Ptr::new(p_prev_slot, p_prev_generation),
+        Ptr::new(p_next_slot, p_next_generation),
     )
 }
 
@@ -56,13 +58,14 @@ pub extern "C" fn chain_arena_break_prev(
         (arena prev.old next.old generation.now payload.now header.now) [] result [] (arena prev.new next.new generation.now payload.now header.now) [] }
 {
     level_two_edits::chain_arena_break_prev(
-        prev,
-        next,
-        generation,
-        payload,
-        header,
-        p_slot,
-        p_generation,
+        &mut LinksMut {
+            prev,
+            next,
+            generation,
+            payload,
+            header,
+        },
+        Ptr::new(p_slot, p_generation),
     )
 }
 
@@ -81,13 +84,14 @@ pub extern "C" fn chain_arena_break_next(
         (arena prev.old next.old generation.now payload.now header.now) [] result [] (arena prev.new next.new generation.now payload.now header.now) [] }
 {
     level_two_edits::chain_arena_break_next(
-        prev,
-        next,
-        generation,
-        payload,
-        header,
-        p_slot,
-        p_generation,
+        &mut LinksMut {
+            prev,
+            next,
+            generation,
+            payload,
+            header,
+        },
+        Ptr::new(p_slot, p_generation),
     )
 }
 
@@ -108,15 +112,15 @@ pub extern "C" fn chain_arena_exchange_next(
         (arena prev.old next.old generation.now payload.now header.now) [] result [] (arena prev.new next.new generation.now payload.now header.now) [] }
 {
     level_two_edits::chain_arena_exchange_next(
-        prev,
-        next,
-        generation,
-        payload,
-        header,
-        p0_slot,
-        p0_generation,
-        p1_slot,
-        p1_generation,
+        &mut LinksMut {
+            prev,
+            next,
+            generation,
+            payload,
+            header,
+        },
+        Ptr::new(p0_slot, p0_generation),
+        Ptr::new(p1_slot, p1_generation),
     )
 }
 
@@ -139,16 +143,16 @@ pub extern "C" fn chain_arena_insert(
         (arena prev.old next.old generation.old payload.old header.old) [] result.answer (result.slot ∷ result.generation ∷ []) (arena prev.new next.new generation.new payload.new header.new) [] }
 {
     level_two_insert::chain_arena_insert(
-        prev,
-        next,
-        generation,
-        payload,
-        header,
+        &mut ArenaMut {
+            prev,
+            next,
+            generation,
+            payload,
+            header,
+        },
         kind,
-        p_slot,
-        p_generation,
-        q_slot,
-        q_generation,
+        Ptr::new(p_slot, p_generation),
+        Ptr::new(q_slot, q_generation),
         new_payload,
     )
 }
@@ -168,13 +172,14 @@ pub extern "C" fn chain_arena_remove(
         (arena prev.old next.old generation.old payload.old header.old) [] result.answer (result.prev ∷ result.next ∷ result.payload ∷ []) (arena prev.new next.new generation.new payload.new header.new) [] }
 {
     level_two_remove::chain_arena_remove(
-        prev,
-        next,
-        generation,
-        payload,
-        header,
-        p_slot,
-        p_generation,
+        &mut ArenaMut {
+            prev,
+            next,
+            generation,
+            payload,
+            header,
+        },
+        Ptr::new(p_slot, p_generation),
     )
 }
 
@@ -194,13 +199,14 @@ pub extern "C" fn chain_arena_drain(
         (arena prev.old next.old generation.old payload.old header.old) report.old result.answer (result.items ∷ result.overflowed ∷ []) (arena prev.new next.new generation.new payload.new header.new) report.new }
 {
     level_two_drain::chain_arena_drain(
-        prev,
-        next,
-        generation,
-        payload,
-        header,
-        p_slot,
-        p_generation,
+        &mut ArenaMut {
+            prev,
+            next,
+            generation,
+            payload,
+            header,
+        },
+        Ptr::new(p_slot, p_generation),
         report,
     )
 }
@@ -219,11 +225,13 @@ pub extern "C" fn chain_arena_set_generation(
         (arena prev.now next.now generation.now payload.now header.old) [] result [] (arena prev.now next.now generation.now payload.now header.new) [] }
 {
     level_two_generation::chain_arena_set_generation(
-        prev,
-        next,
-        generation,
-        payload,
-        header,
+        &mut HeaderMut {
+            prev,
+            next,
+            generation,
+            payload,
+            header,
+        },
         new_generation,
     )
 }
@@ -240,7 +248,13 @@ pub extern "C" fn chain_arena_inc_generation(
     ensures { Answered IncGeneration
         (arena prev.now next.now generation.now payload.now header.old) [] result [] (arena prev.now next.now generation.now payload.now header.new) [] }
 {
-    level_two_generation::chain_arena_inc_generation(prev, next, generation, payload, header)
+    level_two_generation::chain_arena_inc_generation(&mut HeaderMut {
+        prev,
+        next,
+        generation,
+        payload,
+        header,
+    })
 }
 
 // Pops the free slots at the end of the stack and lists the others in rising order (REFERENCE, Freelist).
@@ -255,7 +269,13 @@ pub extern "C" fn chain_arena_canonicalize_freelist(
     ensures { Answered CanonicalizeFreelist
         (arena prev.old next.old generation.old payload.old header.old) [] result [] (arena prev.new next.new generation.new payload.new header.new) [] }
 {
-    level_two_generation::chain_arena_canonicalize_freelist(prev, next, generation, payload, header)
+    level_two_generation::chain_arena_canonicalize_freelist(&mut ArenaMut {
+        prev,
+        next,
+        generation,
+        payload,
+        header,
+    })
 }
 
 // Runs the commands, six words each, and writes an answer word for each: 0, 100, 12, 13, 16, 17 or 18 (REFERENCE, Run).
@@ -272,5 +292,15 @@ pub extern "C" fn chain_arena_run(
     ensures { Answered (Run commands.now)
         (arena prev.old next.old generation.old payload.old header.old) answers.old result [] (arena prev.new next.new generation.new payload.new header.new) answers.new }
 {
-    level_two_run::chain_arena_run(prev, next, generation, payload, header, commands, answers)
+    level_two_run::chain_arena_run(
+        &mut ArenaMut {
+            prev,
+            next,
+            generation,
+            payload,
+            header,
+        },
+        commands,
+        answers,
+    )
 }

@@ -1,16 +1,20 @@
 // Level Two, the drain of a chain, as a host calls it through level_two_c.
-#![tactic(auto)]
+#![tactic(auto, using(answers::proofs::Exports::replies_refused, answers::proofs::Exports::replies_passed, well_formed::proofs::WellFormed::well_formed_if_passes), unfolding(definitions::specs::Calls::accepted))]
 
 ghost use Rattle.std.specs.Prelude.{List, [], ◌∷◌, ◌≡◌, ℕ};
-ghost use Rattle.definitions.specs.Arena.{Arena, arena};
-ghost use Rattle.definitions.specs.Read.{pointer};
-ghost use Rattle.definitions.specs.Calls.{Drain};
+ghost use Rattle.definitions.specs.Arena.{Arena, capacity_limit, largest_generation};
+ghost use Rattle.definitions.specs.Calls.{Drain, reply_to};
+ghost use Rattle.lent.specs.Arenas.{held_in, SameBuffers};
+ghost use Rattle.ptr.specs.Pointers.{pointer_of};
 ghost use Rattle.chain_drain.specs.Drained.{drain_reply};
 ghost use Rattle.answers.specs.Answered.{replied, Answered};
 
-use answers::{Answer, checked};
+use answers::Answer;
+use chain_arena::check;
 use chain_drain::{Drained, drain};
-use ptr::{Gen, Ptr, Slot};
+use lent::ArenaMut;
+use ptr::Ptr;
+use refusals::Refusal;
 
 // A drain's answer: how many links were removed, and which one of them, counted from 1, made the generation overflow, 0 if none did.
 #[repr(C)]
@@ -21,54 +25,40 @@ pub struct DrainResult {
     pub overflowed: u32,
 }
 
-// What the host is told of a drain on an arena that passed the check.
-fn drain_result(d: Drained) -> DrainResult
-    ensures { (a : Arena) (l : List ℕ) → replied result.answer (result.items ∷ result.overflowed ∷ []) a l ≡ drain_reply d a l }
-{
-    match d {
-        Drained::Done { items, overflowed } => DrainResult {
-            answer: Answer::of(0),
-            items: items,
-            overflowed: overflowed,
-        },
-        Drained::Stale => DrainResult {
-            answer: Answer::of(12),
-            items: 0,
-            overflowed: 0,
-        },
-        Drained::Short => DrainResult {
-            answer: Answer::of(14),
-            items: 0,
-            overflowed: 0,
-        },
+// What the host is told of a drain.
+impl From<Result<Drained, Refusal>> for DrainResult {
+    ghost from_gives = { λ r s. (a : Arena) (l : List ℕ) → replied s.answer (s.items ∷ s.overflowed ∷ []) a l ≡ drain_reply r a l };
+
+    fn from(drained: Result<Drained, Refusal>) -> DrainResult {
+        match drained {
+            Ok(d) => DrainResult {
+                answer: Answer::of(0),
+                items: d.items,
+                overflowed: d.overflowed.unwrap_or(0),
+            },
+            Err(refusal) => DrainResult {
+                answer: Answer::from(refusal),
+                items: 0,
+                overflowed: 0,
+            },
+        }
     }
 }
 
-// Removes every link of p's chain, in the order of a walk from p, and reports each as it is when its turn comes, in five words (REFERENCE, Drain).
-pub fn chain_arena_drain(
-    prev: &mut [u32],
-    next: &mut [u32],
-    generation: &mut [u32],
-    payload: &mut [u32],
-    header: &mut [u32],
-    p_slot: u32,
-    p_generation: u32,
-    report: &mut [u32],
-) -> DrainResult
-    ensures { Answered (Drain (pointer p_slot p_generation))
-        (arena prev.old next.old generation.old payload.old header.old) report.old result.answer (result.items ∷ result.overflowed ∷ []) (arena prev.new next.new generation.new payload.new header.new) report.new }
+// The drain, in an arena that passes the check.
+fn checked_drain(arena: &mut ArenaMut<'_>, p: Ptr, report: &mut [u32]) -> Result<Drained, Refusal>
+    ensures lent { SameBuffers arena.old arena.new }
+    ensures replied { drain_reply result (held_in arena.new) report.new
+        ≡ reply_to capacity_limit largest_generation (Drain (pointer_of p)) (held_in arena.old) report.old }
 {
-    let answer = checked(&*prev, &*next, &*generation, &*payload, &*header);
-    if answer.number != 0 {
-        return DrainResult {
-            answer: answer,
-            items: 0,
-            overflowed: 0,
-        };
-    }
-    let p = Ptr {
-        inx: Slot(p_slot),
-        generation: Gen(p_generation),
-    };
-    drain_result(drain(prev, next, generation, payload, header, p, report))
+    check(arena.lent())?;
+    drain(arena, p, report)
+}
+
+// Removes every link of p's chain, in the order of a walk from p, and reports each as it is when its turn comes, in five words (REFERENCE, Drain).
+pub fn chain_arena_drain(arena: &mut ArenaMut<'_>, p: Ptr, report: &mut [u32]) -> DrainResult
+    ensures lent { SameBuffers arena.old arena.new }
+    ensures answered { Answered (Drain (pointer_of p)) (held_in arena.old) report.old result.answer (result.items ∷ result.overflowed ∷ []) (held_in arena.new) report.new }
+{
+    DrainResult::from(checked_drain(arena, p, report))
 }

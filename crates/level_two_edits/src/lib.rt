@@ -1,120 +1,85 @@
 // Level Two, the edits of interlinks, as a host calls them through level_two_c.
-#![tactic(auto)]
+#![tactic(auto, using(answers::proofs::Exports::replies_refused, answers::proofs::Exports::replies_passed, well_formed::proofs::WellFormed::well_formed_if_passes), unfolding(definitions::specs::Calls::accepted))]
 
-ghost use Rattle.definitions.specs.Arena.{arena};
-ghost use Rattle.std.specs.Prelude.{[]};
-ghost use Rattle.definitions.specs.Read.{pointer};
-ghost use Rattle.definitions.specs.Calls.{Connect, BreakPrev, BreakNext, ExchangeNext};
+ghost use Rattle.std.specs.Prelude.{◌≡◌, []};
+ghost use Rattle.definitions.specs.Arena.{capacity_limit, largest_generation};
+ghost use Rattle.definitions.specs.Calls.{Connect, BreakPrev, BreakNext, ExchangeNext, reply_to};
+ghost use Rattle.lent.specs.Arenas.{links_of, SameLinks};
+ghost use Rattle.ptr.specs.Pointers.{pointer_of};
+ghost use Rattle.chain_edits.specs.Edits.{edited_reply};
 ghost use Rattle.answers.specs.Answered.{Answered};
 
-use answers::{Answer, checked};
+use answers::Answer;
+use chain_arena::check;
 use chain_edits::{break_next, break_prev, connect, exchange_next};
-use ptr::{Gen, Ptr, Slot};
+use lent::LinksMut;
+use ptr::Ptr;
+use refusals::Refusal;
+
+// The connection, of an arena that passes the check.
+fn checked_connect(arena: &mut LinksMut<'_>, p_prev: Ptr, p_next: Ptr) -> Result<(), Refusal>
+    ensures lent { SameLinks arena.old arena.new }
+    ensures replied { edited_reply result (links_of arena.new) ≡ reply_to capacity_limit largest_generation (Connect (pointer_of p_prev) (pointer_of p_next)) (links_of arena.old) [] }
+{
+    check(arena.lent())?;
+    connect(arena, p_prev, p_next)
+}
 
 // Joins the end p_prev to the start p_next (REFERENCE, Connect).
-pub fn chain_arena_connect(
-    prev: &mut [u32],
-    next: &mut [u32],
-    generation: &[u32],
-    payload: &[u32],
-    header: &[u32],
-    p_prev_slot: u32,
-    p_prev_generation: u32,
-    p_next_slot: u32,
-    p_next_generation: u32,
-) -> Answer
-    ensures { Answered (Connect (pointer p_prev_slot p_prev_generation) (pointer p_next_slot p_next_generation))
-        (arena prev.old next.old generation.now payload.now header.now) [] result [] (arena prev.new next.new generation.now payload.now header.now) [] }
+pub fn chain_arena_connect(arena: &mut LinksMut<'_>, p_prev: Ptr, p_next: Ptr) -> Answer
+    ensures lent { SameLinks arena.old arena.new }
+    ensures answered { Answered (Connect (pointer_of p_prev) (pointer_of p_next)) (links_of arena.old) [] result [] (links_of arena.new) [] }
 {
-    let answer = checked(&*prev, &*next, generation, payload, header);
-    if answer.number != 0 {
-        return answer;
-    }
-    let p_prev = Ptr {
-        inx: Slot(p_prev_slot),
-        generation: Gen(p_prev_generation),
-    };
-    let p_next = Ptr {
-        inx: Slot(p_next_slot),
-        generation: Gen(p_next_generation),
-    };
-    Answer::of(connect(prev, next, generation, payload, header, p_prev, p_next).number())
+    Answer::from(checked_connect(arena, p_prev, p_next))
+}
+
+// The break before p, of an arena that passes the check.
+fn checked_break_prev(arena: &mut LinksMut<'_>, p: Ptr) -> Result<(), Refusal>
+    ensures lent { SameLinks arena.old arena.new }
+    ensures replied { edited_reply result (links_of arena.new) ≡ reply_to capacity_limit largest_generation (BreakPrev (pointer_of p)) (links_of arena.old) [] }
+{
+    check(arena.lent())?;
+    break_prev(arena, p)
 }
 
 // Takes the interlink between p and its prev away (REFERENCE, Break).
-pub fn chain_arena_break_prev(
-    prev: &mut [u32],
-    next: &mut [u32],
-    generation: &[u32],
-    payload: &[u32],
-    header: &[u32],
-    p_slot: u32,
-    p_generation: u32,
-) -> Answer
-    ensures { Answered (BreakPrev (pointer p_slot p_generation))
-        (arena prev.old next.old generation.now payload.now header.now) [] result [] (arena prev.new next.new generation.now payload.now header.now) [] }
+pub fn chain_arena_break_prev(arena: &mut LinksMut<'_>, p: Ptr) -> Answer
+    ensures lent { SameLinks arena.old arena.new }
+    ensures answered { Answered (BreakPrev (pointer_of p)) (links_of arena.old) [] result [] (links_of arena.new) [] }
 {
-    let answer = checked(&*prev, &*next, generation, payload, header);
-    if answer.number != 0 {
-        return answer;
-    }
-    let p = Ptr {
-        inx: Slot(p_slot),
-        generation: Gen(p_generation),
-    };
-    Answer::of(break_prev(prev, next, generation, payload, header, p).number())
+    Answer::from(checked_break_prev(arena, p))
+}
+
+// The break behind p, of an arena that passes the check.
+fn checked_break_next(arena: &mut LinksMut<'_>, p: Ptr) -> Result<(), Refusal>
+    ensures lent { SameLinks arena.old arena.new }
+    ensures replied { edited_reply result (links_of arena.new) ≡ reply_to capacity_limit largest_generation (BreakNext (pointer_of p)) (links_of arena.old) [] }
+{
+    check(arena.lent())?;
+    break_next(arena, p)
 }
 
 // Takes the interlink between p and its next away (REFERENCE, Break).
-pub fn chain_arena_break_next(
-    prev: &mut [u32],
-    next: &mut [u32],
-    generation: &[u32],
-    payload: &[u32],
-    header: &[u32],
-    p_slot: u32,
-    p_generation: u32,
-) -> Answer
-    ensures { Answered (BreakNext (pointer p_slot p_generation))
-        (arena prev.old next.old generation.now payload.now header.now) [] result [] (arena prev.new next.new generation.now payload.now header.now) [] }
+pub fn chain_arena_break_next(arena: &mut LinksMut<'_>, p: Ptr) -> Answer
+    ensures lent { SameLinks arena.old arena.new }
+    ensures answered { Answered (BreakNext (pointer_of p)) (links_of arena.old) [] result [] (links_of arena.new) [] }
 {
-    let answer = checked(&*prev, &*next, generation, payload, header);
-    if answer.number != 0 {
-        return answer;
-    }
-    let p = Ptr {
-        inx: Slot(p_slot),
-        generation: Gen(p_generation),
-    };
-    Answer::of(break_next(prev, next, generation, payload, header, p).number())
+    Answer::from(checked_break_next(arena, p))
+}
+
+// The exchange, of an arena that passes the check.
+fn checked_exchange_next(arena: &mut LinksMut<'_>, p0: Ptr, p1: Ptr) -> Result<(), Refusal>
+    ensures lent { SameLinks arena.old arena.new }
+    ensures replied { edited_reply result (links_of arena.new) ≡ reply_to capacity_limit largest_generation (ExchangeNext (pointer_of p0) (pointer_of p1)) (links_of arena.old) [] }
+{
+    check(arena.lent())?;
+    exchange_next(arena, p0, p1)
 }
 
 // Gives each of p0 and p1 the other's next (REFERENCE, Exchange).
-pub fn chain_arena_exchange_next(
-    prev: &mut [u32],
-    next: &mut [u32],
-    generation: &[u32],
-    payload: &[u32],
-    header: &[u32],
-    p0_slot: u32,
-    p0_generation: u32,
-    p1_slot: u32,
-    p1_generation: u32,
-) -> Answer
-    ensures { Answered (ExchangeNext (pointer p0_slot p0_generation) (pointer p1_slot p1_generation))
-        (arena prev.old next.old generation.now payload.now header.now) [] result [] (arena prev.new next.new generation.now payload.now header.now) [] }
+pub fn chain_arena_exchange_next(arena: &mut LinksMut<'_>, p0: Ptr, p1: Ptr) -> Answer
+    ensures lent { SameLinks arena.old arena.new }
+    ensures answered { Answered (ExchangeNext (pointer_of p0) (pointer_of p1)) (links_of arena.old) [] result [] (links_of arena.new) [] }
 {
-    let answer = checked(&*prev, &*next, generation, payload, header);
-    if answer.number != 0 {
-        return answer;
-    }
-    let p0 = Ptr {
-        inx: Slot(p0_slot),
-        generation: Gen(p0_generation),
-    };
-    let p1 = Ptr {
-        inx: Slot(p1_slot),
-        generation: Gen(p1_generation),
-    };
-    Answer::of(exchange_next(prev, next, generation, payload, header, p0, p1).number())
+    Answer::from(checked_exchange_next(arena, p0, p1))
 }

@@ -1,30 +1,37 @@
 // Level Two, many edits in one call, as a host calls it through level_two_c.
-#![tactic(auto)]
+#![tactic(auto, using(answers::proofs::Exports::replies_refused, answers::proofs::Exports::replies_passed, well_formed::proofs::WellFormed::well_formed_if_passes), unfolding(definitions::specs::Calls::accepted))]
 
-ghost use Rattle.definitions.specs.Arena.{arena};
-ghost use Rattle.std.specs.Prelude.{[]};
-ghost use Rattle.definitions.specs.Calls.{Run};
+ghost use Rattle.std.specs.Prelude.{◌≡◌, []};
+ghost use Rattle.definitions.specs.Arena.{capacity_limit, largest_generation};
+ghost use Rattle.definitions.specs.Calls.{Run, reply_to};
+ghost use Rattle.lent.specs.Arenas.{held_in, SameBuffers};
+ghost use Rattle.chain_run.specs.Ran.{ran_reply};
 ghost use Rattle.answers.specs.Answered.{Answered};
 
-use answers::{Answer, checked};
+use answers::Answer;
+use chain_arena::check;
 use chain_run::run;
+use lent::ArenaMut;
+use refusals::Refusal;
 
-// Runs the commands, six words each, and writes an answer word for each: 0, 100, 12, 13, 16, 17 or 18 (REFERENCE, Run).
-pub fn chain_arena_run(
-    prev: &mut [u32],
-    next: &mut [u32],
-    generation: &mut [u32],
-    payload: &mut [u32],
-    header: &mut [u32],
+// The run, on an arena that passes the check.
+fn checked_run(
+    arena: &mut ArenaMut<'_>,
     commands: &[u32],
     answers: &mut [u32],
-) -> Answer
-    ensures { Answered (Run commands.now)
-        (arena prev.old next.old generation.old payload.old header.old) answers.old result [] (arena prev.new next.new generation.new payload.new header.new) answers.new }
+) -> Result<(), Refusal>
+    ensures lent { SameBuffers arena.old arena.new }
+    ensures replied { ran_reply result (held_in arena.new) answers.new
+        ≡ reply_to capacity_limit largest_generation (Run commands.now) (held_in arena.old) answers.old }
 {
-    let answer = checked(&*prev, &*next, &*generation, &*payload, &*header);
-    if answer.number != 0 {
-        return answer;
-    }
-    Answer::of(run(prev, next, generation, payload, header, commands, answers).number())
+    check(arena.lent())?;
+    run(arena, commands, answers)
+}
+
+// Runs the commands, six words each, and writes an answer word for each: 0, 100, 12, 13, 16, 17 or 18 (REFERENCE, Run).
+pub fn chain_arena_run(arena: &mut ArenaMut<'_>, commands: &[u32], answers: &mut [u32]) -> Answer
+    ensures lent { SameBuffers arena.old arena.new }
+    ensures answered { Answered (Run commands.now) (held_in arena.old) answers.old result [] (held_in arena.new) answers.new }
+{
+    Answer::from(checked_run(arena, commands, answers))
 }

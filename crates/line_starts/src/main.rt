@@ -2,32 +2,26 @@
 // is printed here (REFERENCE, Frame clock).
 #![tactic(auto)]
 
-ghost use Rattle.std.specs.Prelude.{◌≡◌, ◌<◌};
-ghost use Rattle.definitions.specs.Clock.{frame_lines, first_dot};
+ghost use Rattle.std.specs.Prelude.{◌≡◌};
+ghost use Rattle.definitions.specs.Clock.{first_dot};
 
 use frame_clock::{DOTS_PER_LINE, Dot, LINES, Line};
 use std::io;
 
 // The first dot of a line, computed and not read off the table.
+#[tactic(auto, unfolding(definitions::specs::Clock::first_dot))]
 fn start_of(line: Line) -> Dot
-    requires { line.0 < frame_lines }
-    ensures { result.0 ≡ first_dot line.0 }
+    ensures { result.index ≡ first_dot line.index }
 {
-    Dot(DOTS_PER_LINE * line.0)
+    Dot {
+        index: DOTS_PER_LINE * line.index,
+    }
 }
 
-// The first dot of a line, in decimal on a line of its own.
-fn print_start(rt: &impl Print, line: Line) -> io::Result<()>
-    requires { line.0 < frame_lines }
-{
-    let start = start_of(line).0;
-    println!(rt; "{start}")
-}
-
-// All lines, in their order.
+// All lines, in their order: the first dot of each, in decimal on a line of its own.
 fn main(rt: HostRuntime) -> io::Result<()> {
-    for line in 0..LINES {
-        print_start(&rt, Line(line))?;
+    for index in 0..LINES {
+        println!(rt; "{}", start_of(Line { index }).index)?;
     }
     Ok(())
 }

@@ -1,1 +1,2 @@
 pub mod Extra
+pub mod Pointers

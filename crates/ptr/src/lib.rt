@@ -4,21 +4,35 @@
 ghost use Rattle.std.specs.Prelude.{◌≡◌};
 ghost use Rattle.definitions.specs.Arena.{largest_generation};
 ghost use Rattle.definitions.specs.Edit.{next_generation, overflows, done_number};
+ghost use Rattle.definitions.specs.Read.{pointer};
 ghost use Rattle.ptr.specs.Extra.{invalidation_number};
+ghost use Rattle.ptr.specs.Pointers.{pointer_of};
 
 // A slot number; 0 where there is none.
-#[derive(Clone, Copy)]
+#[derive(Clone, Copy, PartialEq, Eq)]
 pub struct Slot(pub u32);
 
 // A generation; a free slot has 0.
-#[derive(Clone, Copy)]
+#[derive(Clone, Copy, PartialEq, Eq)]
 pub struct Gen(pub u32);
 
 // A slot together with a generation (REFERENCE, Pointers and generations).
-#[derive(Clone, Copy)]
+#[derive(Clone, Copy, PartialEq, Eq)]
 pub struct Ptr {
     pub inx: Slot,
     pub generation: Gen,
+}
+
+impl Ptr {
+    // The pointer of these two words.
+    pub fn new(slot: u32, generation: u32) -> Ptr
+        ensures { pointer_of result ≡ pointer slot generation }
+    {
+        Ptr {
+            inx: Slot(slot),
+            generation: Gen(generation),
+        }
+    }
 }
 
 // The generation that follows another, and whether it overflowed.
@@ -33,19 +47,19 @@ impl Gen {
     pub const TWO: Gen = Gen(2);
 
     // The generation that follows this one: 2 after the largest, 4,294,967,295, and that step is an overflow.
+    #[tactic(auto, unfolding(definitions::specs::Edit::next_generation, definitions::specs::Edit::overflows))]
     pub fn generational_inc(self) -> GenerationalInc
         ensures { (result.generation.0 ≡ next_generation largest_generation self.0) × (result.overflow ≡ overflows largest_generation self.0) }
     {
-        let g = self.0;
-        if g == 4294967295 {
-            return GenerationalInc {
+        match self.0.checked_add(1) {
+            Some(g) => GenerationalInc {
+                generation: Gen(g),
+                overflow: false,
+            },
+            None => GenerationalInc {
                 generation: Gen::TWO,
                 overflow: true,
-            };
-        }
-        GenerationalInc {
-            generation: Gen(g + 1),
-            overflow: false,
+            },
         }
     }
 }

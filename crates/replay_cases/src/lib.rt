@@ -14,16 +14,49 @@
 // the program ends with it.
 #![tactic(auto)]
 
-mod answer;
-mod case;
-mod text;
+mod calls;
+mod cases;
+mod replies;
 
-pub use answer::{
-    end_line, no_call, write_answer, write_arena, write_link_no_gen, write_number, write_word,
-    write_words,
-};
-pub use case::{
-    ARGS, Arguments, CODE, GENERATION, HEADER, Insertion, LENT, NEXT, PAYLOAD, PREV, arguments_of,
-    insertion_of, lent_of, words_of,
-};
-pub use text::next_case;
+pub use calls::Call;
+pub use cases::{Arguments, Case, OwnedArena};
+pub use replies::{NO_CALL, Reply};
+use std::alloc::{AllocError, Global};
+use std::io;
+use std::io::{BufRead, BufReader, LineWriter, Read, Write};
+
+// How many cases a program replays at most.
+const MOST_CASES: usize = 65536;
+
+// How many bytes a case's line has at most, its end among them.
+const LONGEST_LINE: u64 = 4096;
+
+// The case of the next line. There is none if the line is too long, has no end or has the code 0.
+fn next_case<R: BufRead>(alloc: Global, input: &mut R) -> io::Result<Option<Case>> {
+    let mut line = String::new(alloc);
+    input.by_ref().take(LONGEST_LINE).read_line(&mut line)?;
+    match line.as_str().strip_suffix('\n') {
+        Some(line) => Ok(Case::parse(alloc, line)?),
+        None => Ok(None),
+    }
+}
+
+// Replays the cases of standard input. Each answer is handed on as soon as its line is whole.
+pub fn replay_all<R, F>(rt: &R, mut replay: F) -> io::Result<()>
+where
+    R: Input + Print + AllocGlobal,
+    F: FnMut(&mut Case) -> Result<Reply, AllocError>,
+    requires { F.IsAlwaysCallable replay }
+{
+    let alloc = rt.alloc();
+    let mut input = BufReader::new(alloc, rt.reader())?;
+    let mut out = LineWriter::new(alloc, io::writer(rt))?;
+    for _ in 0..MOST_CASES {
+        let Some(mut case) = next_case(alloc, &mut input)? else {
+            break;
+        };
+        let reply = replay(&mut case)?;
+        writeln!(out, "{reply}")?;
+    }
+    Ok(())
+}

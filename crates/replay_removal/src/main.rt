@@ -4,91 +4,28 @@
 
 use level_two_drain::chain_arena_drain;
 use level_two_remove::chain_arena_remove;
-use replay_cases::{
-    CODE, GENERATION, HEADER, LENT, NEXT, PAYLOAD, PREV, arguments_of, lent_of, next_case, no_call,
-    words_of, write_answer, write_arena, write_link_no_gen, write_word, write_words,
-};
+use replay_cases::{Call, Case, NO_CALL, Reply, replay_all};
+use std::alloc::AllocError;
 use std::io;
-use std::io::{BufReader, BufWriter, Read, Write};
 
-// Removes a link.
-fn remove<W: Write>(out: &mut W, case: &[u32; 192]) -> io::Result<()> {
-    let p = lent_of(case, PREV);
-    let q = lent_of(case, NEXT);
-    let g = lent_of(case, GENERATION);
-    let w = lent_of(case, PAYLOAD);
-    let h = lent_of(case, HEADER);
-    let mut prev = words_of(case, PREV, p);
-    let mut next = words_of(case, NEXT, q);
-    let mut generation = words_of(case, GENERATION, g);
-    let mut payload = words_of(case, PAYLOAD, w);
-    let mut header = words_of(case, HEADER, h);
-    let a = arguments_of(case);
-    let r = chain_arena_remove(
-        &mut prev[..p],
-        &mut next[..q],
-        &mut generation[..g],
-        &mut payload[..w],
-        &mut header[..h],
-        a.first,
-        a.second,
-    );
-    write_link_no_gen(out, r)?;
-    write_arena(out, prev, p, next, q, generation, g, payload, w, header, h)
-}
-
-// Drains a chain, with the lent slice for the report.
-fn drain<W: Write>(out: &mut W, case: &[u32; 192]) -> io::Result<()> {
-    let p = lent_of(case, PREV);
-    let q = lent_of(case, NEXT);
-    let g = lent_of(case, GENERATION);
-    let w = lent_of(case, PAYLOAD);
-    let h = lent_of(case, HEADER);
-    let m = lent_of(case, LENT);
-    let mut prev = words_of(case, PREV, p);
-    let mut next = words_of(case, NEXT, q);
-    let mut generation = words_of(case, GENERATION, g);
-    let mut payload = words_of(case, PAYLOAD, w);
-    let mut header = words_of(case, HEADER, h);
-    let mut report = words_of(case, LENT, m);
-    let a = arguments_of(case);
-    let r = chain_arena_drain(
-        &mut prev[..p],
-        &mut next[..q],
-        &mut generation[..g],
-        &mut payload[..w],
-        &mut header[..h],
-        a.first,
-        a.second,
-        &mut report[..m],
-    );
-    write_answer(out, r.answer)?;
-    write_word(out, r.items)?;
-    write_word(out, r.overflowed)?;
-    write_words(out, report, m)?;
-    write_arena(out, prev, p, next, q, generation, g, payload, w, header, h)
-}
-
-// Replays a case.
-fn replay<W: Write>(out: &mut W, case: &[u32; 192]) -> io::Result<()> {
-    match case[CODE] {
-        11 => remove(out, case),
-        12 => drain(out, case),
-        _ => write_answer(out, no_call()),
-    }
-}
-
-// Replays the cases of standard input, up to its end.
-fn main(rt: HostRuntime) -> io::Result<()> {
-    let alloc = rt.alloc();
-    let mut input = BufReader::new(alloc, rt.reader())?.bytes();
-    let mut out = BufWriter::new(alloc, io::writer(&rt))?;
-    for _ in 0..65536usize {
-        let case = next_case(&mut input)?;
-        if case[CODE] == 0 {
-            break;
+// Makes the call of a case. A drain reports in the lent slice.
+fn replay(case: &mut Case) -> Result<Reply, AllocError> {
+    let arena = &mut case.arena.lent_mut();
+    let p = case.arguments.pointer(0);
+    match &case.call {
+        Some(Call::Remove) => {
+            let r = chain_arena_remove(arena, p);
+            case.reply(r.answer, &[r.prev, r.next, r.payload])
         }
-        replay(&mut out, &case)?;
+        Some(Call::Drain) => {
+            let r = chain_arena_drain(arena, p, case.lent.as_mut_slice());
+            case.reply(r.answer, &[r.items, r.overflowed])
+        }
+        _ => case.reply(NO_CALL, &[]),
     }
-    out.flush()
+}
+
+// Replays the cases of standard input.
+fn main(rt: HostRuntime) -> io::Result<()> {
+    replay_all(&rt, replay)
 }

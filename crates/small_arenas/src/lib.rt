@@ -2,12 +2,15 @@
 #![tactic(auto)]
 
 ghost use Rattle.std.specs.Prelude.{[], ◌∷◌, ◌≡◌};
-ghost use Rattle.definitions.specs.Arena.{Arena, capacity_limit, arena};
+ghost use Rattle.definitions.specs.Arena.{Arena, capacity_limit};
 ghost use Rattle.definitions.specs.Reply.{reply};
+ghost use Rattle.lent.specs.Arenas.{held_in, SameBuffers};
 ghost use Rattle.all_small.specs.SmallArena.{small_arena};
 ghost use Rattle.small_layout.specs.Laid.{small_reply};
 
-use small_layout::{SmallArena, small_arena};
+use lent::ArenaMut;
+use refusals::Refusal;
+use small_layout::small_arena;
 
 // Whether there is a small arena of an index, and its stack length.
 #[repr(C)]
@@ -19,44 +22,34 @@ pub struct SmallArenaResult {
 }
 
 // What the host is told.
-fn small_result(given: SmallArena) -> SmallArenaResult
-    ensures { (a : Arena) → reply result.number (result.found ∷ result.length ∷ []) a [] ≡ small_reply given a }
-{
-    match given {
-        SmallArena::Found(n) => SmallArenaResult {
-            number: 0,
-            found: 1,
-            length: n,
-        },
-        SmallArena::Past => SmallArenaResult {
-            number: 0,
-            found: 0,
-            length: 0,
-        },
-        SmallArena::Short => SmallArenaResult {
-            number: 14,
-            found: 0,
-            length: 0,
-        },
-        SmallArena::Misshapen => SmallArenaResult {
-            number: 1,
-            found: 0,
-            length: 0,
-        },
+impl From<Result<Option<u32>, Refusal>> for SmallArenaResult {
+    ghost from_gives = { λ given told. (a : Arena) → reply told.number (told.found ∷ told.length ∷ []) a [] ≡ small_reply given a };
+
+    fn from(given: Result<Option<u32>, Refusal>) -> SmallArenaResult {
+        match given {
+            Ok(Some(length)) => SmallArenaResult {
+                number: 0,
+                found: 1,
+                length,
+            },
+            Ok(None) => SmallArenaResult {
+                number: 0,
+                found: 0,
+                length: 0,
+            },
+            Err(refusal) => SmallArenaResult {
+                number: refusal.number(),
+                found: 0,
+                length: 0,
+            },
+        }
     }
 }
 
 // Lays the small arena of an index, from 0 on, into the front of the columns and into the header (REFERENCE, Small arenas).
-pub fn chain_arena_small_arena(
-    prev: &mut [u32],
-    next: &mut [u32],
-    generation: &mut [u32],
-    payload: &mut [u32],
-    header: &mut [u32],
-    index: u32,
-) -> SmallArenaResult
-    ensures { reply result.number (result.found ∷ result.length ∷ []) (arena prev.new next.new generation.new payload.new header.new) []
-        ≡ small_arena capacity_limit (arena prev.old next.old generation.old payload.old header.old) index }
+pub fn chain_arena_small_arena(arena: &mut ArenaMut<'_>, index: u32) -> SmallArenaResult
+    ensures lent { SameBuffers arena.old arena.new }
+    ensures answered { reply result.number (result.found ∷ result.length ∷ []) (held_in arena.new) [] ≡ small_arena capacity_limit (held_in arena.old) index }
 {
-    small_result(small_arena(prev, next, generation, payload, header, index))
+    small_arena(arena, index).into()
 }

@@ -7,6 +7,7 @@ ghost use Rattle.definitions.specs.Arena.{capacity_limit, arena};
 ghost use Rattle.definitions.specs.Reply.{reply};
 ghost use Rattle.all_small.specs.SmallArena.{small_arena};
 
+use lent::ArenaMut;
 use small_arenas::SmallArenaResult;
 
 // Lays the small arena of an index, from 0 on, into the front of the columns and into the header (REFERENCE, Small arenas).
@@ -22,5 +23,14 @@ pub extern "C" fn chain_arena_small_arena(
     ensures { reply result.number (result.found ∷ result.length ∷ []) (arena prev.new next.new generation.new payload.new header.new) []
         ≡ small_arena capacity_limit (arena prev.old next.old generation.old payload.old header.old) index }
 {
-    small_arenas::chain_arena_small_arena(prev, next, generation, payload, header, index)
+    small_arenas::chain_arena_small_arena(
+        &mut ArenaMut {
+            prev,
+            next,
+            generation,
+            payload,
+            header,
+        },
+        index,
+    )
 }

@@ -1,13 +1,10 @@
 // The table of all small arenas, each packed into one number (REFERENCE, Small arenas).
 #![tactic(auto)]
 
-ghost use Rattle.std.specs.Prelude.{◌≡◌, ◌<◌};
+ghost use Rattle.std.specs.Prelude.{◌≡◌, ◌≤◌, ◌<◌, MatchOption};
 ghost use Rattle.statements.specs.SmallArenas.{entry};
 ghost use Rattle.all_small.specs.SmallArenas.{small_arenas};
 ghost use Rattle.all_small.proofs.Packed.{unpacked};
-
-// How many small arenas there are.
-pub const SMALL_ARENAS: u32 = 90;
 
 // All small arenas in their order. The digits of an entry to the base 4, from the lowest on, are its stack length, link count and root, and then, slot by
 // slot, prev, next, generation and payload.
@@ -25,10 +22,9 @@ const TABLE: [u32; 90] = [
     53024955, 53041851,
 ];
 
-// The small arena of an index, packed.
-pub fn packed_arena(index: usize) -> u32
-    requires { index < 90 }
-    ensures { unpacked result ≡ entry small_arenas index }
+// The small arena of an index, packed; none where the index is past the last.
+pub fn packed_arena(index: usize) -> Option<u32>
+    ensures { MatchOption result (90 ≤ index) (λ packed. (index < 90) × (unpacked packed ≡ entry small_arenas index)) }
 {
-    TABLE[index]
+    TABLE.get(index).copied()
 }

@@ -1,16 +1,15 @@
-use mathlib.Core.Path.{refl}
-use native.Mathlib.Omega.{arith}
-use Rattle.base_freelist.proofs.Rising.{highest_here, highest_below, highest_none}
+-- `base_freelist::highest_link` meets its contract, by what `rposition` finds: the last of the first n words that is not 0. Assumes nothing.
+use Rattle.std.proofs.Common.{rules, ◌≡◌, ℕ, ◌<◌, get_or, take}
+use Rattle.base_freelist.proofs.Rising.{highest_found, highest_none}
 use Rattle.base_freelist.proofs.highest_link.Goals as goal
 
-pub loop-m-init : goal.loop-m-init
-loop-m-init c = (omega arith, refl)
+pub returns-in-Some : goal.returns-in-Some
+returns-in-Some c =
+    let words = take c.args.n c.args.generation.now in
+    let within : c.in-Some.i < c.args.n = search rules in
+    let some : get_or words c.in-Some.i 0 ≡ 0 → ⊥ = search rules in
+    let last : (k : ℕ) → c.in-Some.i < k → k < c.args.n → get_or words k 0 ≡ 0 = search rules in
+    highest_found _ _ _ within some last
 
-pub returns-then-generation-m-ne0 : goal.returns-then-generation-m-ne0
-returns-then-generation-m-ne0 c = search highest_here
-
-pub loop-m-preserved : goal.loop-m-preserved
-loop-m-preserved c = (omega arith, search highest_below)
-
-pub returns : goal.returns
-returns c = search highest_none
+pub returns-in-None : goal.returns-in-None
+returns-in-None c = search (rules, highest_none)

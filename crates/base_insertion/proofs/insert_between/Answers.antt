@@ -3,5 +3,5 @@
 use Rattle.base_insertion.proofs.Inserting.{all_written}
 use Rattle.base_insertion.proofs.insert_between.Goals as goal
 
-pub returns : goal.returns
-returns c = all_written _ c.requires c.put_in.ensures c.put_in-2.ensures (c.count_insertion.ensures _ _ _)
+pub returns-clause-inserted : goal.returns-clause-inserted
+returns-clause-inserted c = all_written _ c.requires c.put_in-2.ensures c.put_in.ensures (c.count_insertion.ensures _ _ _)

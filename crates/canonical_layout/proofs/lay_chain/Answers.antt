@@ -1,54 +1,33 @@
-use mathlib.Core.Path.{◌∙◌}
-use mathlib.Core.Logic.{inl, inr}
+use mathlib.Core.Path.{refl, ◌∙◌}
 use native.Mathlib.Omega.{arith}
-use Rattle.canonical_layout.proofs.ChainInPlace.{going_starts, going_chain, going_below, going_on, going_over}
+use Rattle.canonical_layout.proofs.ChainInPlace.{going_starts, going_chain, going_below, going_on, going_ends, going_round}
 use Rattle.canonical_layout.proofs.lay_chain.Goals as goal
+use Rattle.canonical_layout.proofs.lay_chain.Goals.{then-eq-via-then-eq, then-eq-via-else-eq+then-eq-2}
 
-pub loop-t-init : goal.loop-t-init
-loop-t-init c = (omega arith, going_starts _ _ _, c.requires.next_place)
+pub loop-first-init : goal.loop-first-init
+loop-first-init c = record { going = going_starts _ _ _; lent = (refl, refl, refl, refl) }
 
 pub lay_link-t-requires : goal.lay_link-t-requires
-lay_link-t-requires c = going_chain c.loop-t.invariant.1 c.requires.in_chain
+lay_link-t-requires c = going_chain c.loop-first.invariant.going c.requires
 
 pub overflow_add-count : goal.overflow_add-count
-overflow_add-count c = omega (arith, (going_below c.loop-t.invariant.1 c.requires.in_chain).1)
+overflow_add-count c = omega (arith, going_below c.loop-first.invariant.going c.requires)
 
-pub shape_of-prev-then-t-eq0 : goal.shape_of-prev-then-t-eq0
-shape_of-prev-then-t-eq0 c = c.lay_link-t.auto.prev ∙ c.loop-t.invariant.0.prev
+pub returns-then-eq-clause-laid : goal.returns-then-eq-clause-laid
+returns-then-eq-clause-laid c =
+    elim c.then-eq.branch [
+      | then-eq-via-then-eq w ↦ going_ends c.loop-first.invariant.going c.lay_link-t.ensures.laid c.eq.ensures w.if-eq.true
+      | then-eq-via-else-eq+then-eq-2 w ↦ going_round c.loop-first.invariant.going c.lay_link-t.ensures.laid c.eq.ensures w.if-eq.false w.eq-else-eq.ensures w.if-eq-2.true
+    ]
 
-pub shape_of-next-then-t-eq0 : goal.shape_of-next-then-t-eq0
-shape_of-next-then-t-eq0 c = c.lay_link-t.auto.next ∙ c.loop-t.invariant.0.next
+pub loop-first-smaller : goal.loop-first-smaller
+loop-first-smaller c = omega (arith, going_below c.loop-first.invariant.going c.requires)
 
-pub shape_of-payload-then-t-eq0 : goal.shape_of-payload-then-t-eq0
-shape_of-payload-then-t-eq0 c = c.lay_link-t.auto.payload ∙ c.loop-t.invariant.0.payload
-
-pub shape_of-where_from-then-t-eq0 : goal.shape_of-where_from-then-t-eq0
-shape_of-where_from-then-t-eq0 c = c.lay_link-t.auto.where_from ∙ c.loop-t.invariant.0.where_from
-
-pub returns-then-t-eq0 : goal.returns-then-t-eq0
-returns-then-t-eq0 c = going_over c.loop-t.invariant.1 c.loop-t.invariant.2 c.lay_link-t.ensures (inl c.if-t-eq0.true)
-
-pub shape_of-prev-then-t-first : goal.shape_of-prev-then-t-first
-shape_of-prev-then-t-first c = c.lay_link-t.auto.prev ∙ c.loop-t.invariant.0.prev
-
-pub shape_of-next-then-t-first : goal.shape_of-next-then-t-first
-shape_of-next-then-t-first c = c.lay_link-t.auto.next ∙ c.loop-t.invariant.0.next
-
-pub shape_of-payload-then-t-first : goal.shape_of-payload-then-t-first
-shape_of-payload-then-t-first c = c.lay_link-t.auto.payload ∙ c.loop-t.invariant.0.payload
-
-pub shape_of-where_from-then-t-first : goal.shape_of-where_from-then-t-first
-shape_of-where_from-then-t-first c = c.lay_link-t.auto.where_from ∙ c.loop-t.invariant.0.where_from
-
-pub returns-then-t-first : goal.returns-then-t-first
-returns-then-t-first c = going_over c.loop-t.invariant.1 c.loop-t.invariant.2 c.lay_link-t.ensures (inr c.if-t-first.true)
-
-pub loop-t-smaller : goal.loop-t-smaller
-loop-t-smaller c = omega (arith, c.lay_link-t.auto, (going_below c.loop-t.invariant.1 c.requires.in_chain).0)
-
-pub loop-t-preserved : goal.loop-t-preserved
-loop-t-preserved c = (
-  omega (arith, c.lay_link-t.auto, c.loop-t.invariant.0),
-  going_on c.loop-t.invariant.1 c.loop-t.invariant.2 c.lay_link-t.ensures c.if-t-eq0.false c.if-t-first.false,
-  c.loop-t.invariant.2,
-)
+pub loop-first-preserved : goal.loop-first-preserved
+loop-first-preserved c =
+    let same = c.loop-first.invariant.lent in
+    let now = c.lay_link-t.ensures.lent in
+    record {
+      going = going_on c.loop-first.invariant.going c.lay_link-t.ensures.laid c.eq.ensures c.if-eq.false c.eq-else-eq.ensures c.if-eq-2.false;
+      lent = (now.0 ∙ same.0, now.1 ∙ same.1, now.2 ∙ same.2, now.3 ∙ same.3);
+    }

@@ -1,30 +1,16 @@
-use native.Mathlib.Omega.{arith}
+use borrow.Author.Rules.{rules}
 use Rattle.base_slots.proofs.Removable.{removable}
-use Rattle.chain_drain_items.proofs.Draining.{draining_starts, draining_ends, next_link, next_room, draining_goes_on}
+use Rattle.chain_drain_items.proofs.Draining.{draining_ends, next_link, draining_goes_on, counted_from_1}
 use Rattle.chain_drain_items.proofs.drain_items.Goals as goal
 
-pub loop-item-init : goal.loop-item-init
-loop-item-init c = draining_starts _ _ _ _ _ c.requires.drainable c.requires.room
-
-pub overflow_cast-item : goal.overflow_cast-item
-overflow_cast-item c = omega arith
-
-pub overflow_mul-item : goal.overflow_mul-item
-overflow_mul-item c = omega arith
-
-pub drain_item-overflow-requires : goal.drain_item-overflow-requires
-drain_item-overflow-requires c =
-    let inv = c.loop-item.invariant in
-    let next = c.loop-item-test.true in record { removable = removable _ _ inv.rest.arena (next_link inv next); room = next_room inv next }
-
-pub overflow_add-item : goal.overflow_add-item
-overflow_add-item c = omega (arith, c.loop-item-test.true)
-
-pub loop-item-smaller : goal.loop-item-smaller
-loop-item-smaller c = omega (arith, c.loop-item-test.true)
+pub drain_item-overflow-requires-clause-removable : goal.drain_item-overflow-requires-clause-removable
+drain_item-overflow-requires-clause-removable c = let d = c.loop-item.invariant.0 in removable _ _ d.rest.arena (next_link d c.loop-item-test.true)
 
 pub loop-item-preserved : goal.loop-item-preserved
-loop-item-preserved c = rw c.overflowed_item-overflowed.ensures (draining_goes_on c.loop-item.invariant c.loop-item-test.true c.drain_item-overflow.ensures search)
+loop-item-preserved c = (rw (c.or-overflowed.ensures, c.then_some.ensures) (draining_goes_on c.loop-item.invariant.0 c.loop-item-test.true c.drain_item-overflow.ensures.drained), search rules, rw (c.or-overflowed.ensures, c.then_some.ensures) (counted_from_1 _ _ _ c.loop-item.invariant.2))
 
-pub returns : goal.returns
-returns c = draining_ends c.loop-item.invariant c.loop-item-test.false
+pub returns-clause-drained : goal.returns-clause-drained
+returns-clause-drained c = draining_ends c.loop-item.invariant.0 c.loop-item-test.false
+
+pub returns-clause-some : goal.returns-clause-some
+returns-clause-some c = c.loop-item.invariant.2

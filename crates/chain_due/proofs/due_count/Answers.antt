@@ -1,23 +1,30 @@
 -- `chain_due::due_count` meets its contract: first the pointer is tried, then the window. Assumes nothing.
-use Rattle.definitions.specs.Arena.{arena}
-use Rattle.definitions.proofs.Tests.{said_true, said_false}
-use Rattle.chain_ahead.proofs.Started.{started, started_on_chain}
-use Rattle.well_formed.proofs.WellFormed.{shape_if_well_formed}
-use Rattle.chain_traits.specs.Read.{pointer_of}
+use Rattle.std.proofs.lemmas.Result.{err_from_is_err_and}
+use Rattle.chain_ahead.proofs.Started.{StartedAt, started, not_started, started_on_chain}
+use Rattle.lent.specs.Arenas.{checked_of}
+use Rattle.ptr.specs.Pointers.{pointer_of}
 use Rattle.chain_due.proofs.Answers.{count_stale, count_no_window, count_done_lem}
 use Rattle.chain_due.proofs.due_count.Goals as goal
+use Rattle.chain_due.proofs.due_count.Goals.{In_ok-walk}
 
-pub advancer_chain-requires : goal.advancer_chain-requires
-advancer_chain-requires c = shape_if_well_formed _ _ c.requires
+pub returns-in_err-walk : goal.returns-in_err-walk
+returns-in_err-walk c =
+    let q = err_from_is_err_and c.from_residual.result c.from_residual.ensures.1 in
+    rw (q.1, q.2) (count_stale (not_started _ _ _ (rw c.arena.ensures at c.in_err-walk.ensures)) _ _ _)
 
-pub returns-in_default : goal.returns-in_default
-returns-in_default c = count_stale _ _ c.in_default.ensures _
+-- the walk that was started
+start : (c : In_ok-walk) → StartedAt (checked_of c.args.arena) (pointer_of c.args.p) c.in_ok-walk.walk
+start c = started _ _ c.in_ok-walk.walk (rw c.arena.ensures at c.in_ok-walk.ensures)
 
-pub returns-then-not-is_window : goal.returns-then-not-is_window
-returns-then-not-is_window c = count_no_window (started (arena c.args.prev.now c.args.next.now c.args.generation.now c.args.payload.now c.args.header.now) (pointer_of c.args.p) c.in-At.walk c.in-At.ensures) _ (said_false _ _ c.is_window.ensures c.if-not-is_window.true) _
+pub returns-in_err-window : goal.returns-in_err-window
+returns-in_err-window c =
+    let q = err_from_is_err_and c.from_residual-in_err-window.result c.from_residual-in_err-window.ensures.1 in
+    rw (q.1, q.2, c.in_err-window.ensures.0) (count_no_window (start (goal.at.returns-in_err-window c).In_ok-walk) _ _ _ c.in_err-window.ensures.1)
 
 pub due_ahead-requires : goal.due_ahead-requires
-due_ahead-requires c = record { well_formed = c.requires; window = (said_true _ _ c.is_window.ensures c.if-not-is_window.false); on_chain = started_on_chain (started (arena c.args.prev.now c.args.next.now c.args.generation.now c.args.payload.now c.args.header.now) (pointer_of c.args.p) c.in-At.walk c.in-At.ensures) }
+due_ahead-requires c = started_on_chain (start (goal.at.due_ahead-requires c).In_ok-walk)
 
 pub returns : goal.returns
-returns c = count_done_lem (started (arena c.args.prev.now c.args.next.now c.args.generation.now c.args.payload.now c.args.header.now) (pointer_of c.args.p) c.in-At.walk c.in-At.ensures) _ (said_true _ _ c.is_window.ensures c.if-not-is_window.false) _ c.due_ahead.ensures
+returns c =
+    rw (← c.in_ok-window.ensures.0, ← c.in_ok-window.ensures.1)
+    (count_done_lem (start (goal.at.returns c).In_ok-walk) c.in_ok-window.window _ c.due_ahead.ensures)

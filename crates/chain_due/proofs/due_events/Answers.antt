@@ -1,30 +1,40 @@
 -- `chain_due::due_events` meets its contract: the pointer is tried first, then the window, then the room in the report. Assumes nothing.
+use mathlib.Core.Path.{sym}
 use borrow.Author.Tests.{ltb-false}
-use Rattle.definitions.specs.Arena.{arena}
-use Rattle.definitions.proofs.Tests.{said_true, said_false}
-use Rattle.chain_ahead.proofs.Started.{started, started_on_chain}
-use Rattle.well_formed.proofs.WellFormed.{shape_if_well_formed}
-use Rattle.chain_traits.specs.Read.{pointer_of}
+use Rattle.std.proofs.lemmas.Result.{err_from_is_err_and}
+use Rattle.lent.specs.Arenas.{checked_of}
+use Rattle.ptr.specs.Pointers.{pointer_of}
+use Rattle.chain_ahead.proofs.Started.{StartedAt, started, not_started, started_on_chain}
 use Rattle.chain_due.proofs.Answers.{events_stale, events_no_window, events_short, events_done_lem}
 use Rattle.chain_due.proofs.due_events.Goals as goal
+use Rattle.chain_due.proofs.due_events.Goals.{In_ok-walk}
 
-pub advancer_chain-requires : goal.advancer_chain-requires
-advancer_chain-requires c = shape_if_well_formed _ _ c.requires
+pub returns-in_err-walk : goal.returns-in_err-walk
+returns-in_err-walk c =
+    let q = err_from_is_err_and c.from_residual.result c.from_residual.ensures.1 in
+    rw (q.1, q.2) (events_stale (not_started _ _ _ (rw c.arena.ensures at c.in_err-walk.ensures)) _ _ _)
 
-pub returns-in_default : goal.returns-in_default
-returns-in_default c = events_stale _ _ c.in_default.ensures _
+-- the walk that was started
+start : (c : In_ok-walk) → StartedAt (checked_of c.args.arena) (pointer_of c.args.p) c.in_ok-walk.walk
+start c = started _ _ c.in_ok-walk.walk (rw c.arena.ensures at c.in_ok-walk.ensures)
 
-pub returns-then-not-is_window : goal.returns-then-not-is_window
-returns-then-not-is_window c = events_no_window (started (arena c.args.prev.now c.args.next.now c.args.generation.now c.args.payload.now c.args.header.now) (pointer_of c.args.p) c.in-At.walk c.in-At.ensures) _ (said_false _ _ c.is_window.ensures c.if-not-is_window.true) _
+pub returns-in_err-window : goal.returns-in_err-window
+returns-in_err-window c =
+    let q = err_from_is_err_and c.from_residual-in_err-window.result c.from_residual-in_err-window.ensures.1 in
+    rw (q.1, q.2, c.in_err-window.ensures.0) (events_no_window (start (goal.at.returns-in_err-window c).In_ok-walk) _ _ _ c.in_err-window.ensures.1)
 
 pub too_few-requires : goal.too_few-requires
-too_few-requires c = record { well_formed = c.requires; on_chain = started_on_chain (started (arena c.args.prev.now c.args.next.now c.args.generation.now c.args.payload.now c.args.header.now) (pointer_of c.args.p) c.in-At.walk c.in-At.ensures) }
+too_few-requires c = started_on_chain (start (goal.at.too_few-requires c).In_ok-walk)
 
 pub returns-then-too_few : goal.returns-then-too_few
-returns-then-too_few c = events_short (started (arena c.args.prev.now c.args.next.now c.args.generation.now c.args.payload.now c.args.header.now) (pointer_of c.args.p) c.in-At.walk c.in-At.ensures) _ (said_true _ _ c.is_window.ensures c.if-not-is_window.false) _ (said_true _ _ c.too_few.ensures c.if-too_few.true)
+returns-then-too_few c =
+    rw (← c.in_ok-window.ensures.0, ← c.in_ok-window.ensures.1)
+    (events_short (start (goal.at.returns-then-too_few c).In_ok-walk) c.in_ok-window.window _ (sym c.if-too_few.ensures))
 
 pub list_due-requires : goal.list_due-requires
-list_due-requires c = record { well_formed = c.requires; window = (said_true _ _ c.is_window.ensures c.if-not-is_window.false); room = ltb-false _ _ (said_false _ _ c.too_few.ensures c.if-too_few.false); on_chain = started_on_chain (started (arena c.args.prev.now c.args.next.now c.args.generation.now c.args.payload.now c.args.header.now) (pointer_of c.args.p) c.in-At.walk c.in-At.ensures) }
+list_due-requires c = record { room = ltb-false _ _ (sym c.if-too_few.ensures); on_chain = started_on_chain (start (goal.at.list_due-requires c).In_ok-walk) }
 
 pub returns : goal.returns
-returns c = events_done_lem (started (arena c.args.prev.now c.args.next.now c.args.generation.now c.args.payload.now c.args.header.now) (pointer_of c.args.p) c.in-At.walk c.in-At.ensures) _ (said_true _ _ c.is_window.ensures c.if-not-is_window.false) _ (said_false _ _ c.too_few.ensures c.if-too_few.false) c.list_due.ensures
+returns c =
+    rw (← c.in_ok-window.ensures.0, ← c.in_ok-window.ensures.1)
+    (events_done_lem (start (goal.at.returns c).In_ok-walk) c.in_ok-window.window _ (sym c.if-too_few.ensures) c.list_due.ensures)

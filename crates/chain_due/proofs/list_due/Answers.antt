@@ -1,46 +1,43 @@
-use mathlib.Core.Path.{sym, ◌∙◌}
+use mathlib.Core.Path.{sym, ap}
+use lib.ListN.{length, length-append}
 use native.Mathlib.Omega.{arith}
-use Rattle.chain_iterators.proofs.Chain.{step_on_chain}
-use Rattle.well_formed.proofs.WellFormed.{shape_if_well_formed}
-use Rattle.chain_ahead.proofs.Ahead.{ahead_less}
-use Rattle.chain_due.proofs.Passing.{reported_starts, reported_length, reported_all, reported_no, reported_room, reported_yes, passed_few, step_slot}
+use Rattle.lent.specs.Arenas.{checked_of}
+use Rattle.chain_iterators.specs.Walk.{walk_of}
+use Rattle.chain_due.specs.Due.{due_ahead}
+use Rattle.chain_due.proofs.Passing.{Came, came, due_none, due_short, listed_starts, listed_all, listed_no, listed_room, listed_yes}
 use Rattle.chain_due.proofs.list_due.Goals as goal
+use Rattle.chain_due.proofs.list_due.Goals.{In-Some}
 
-pub loop-window-init : goal.loop-window-init
-loop-window-init c = (reported_starts _ _ _ _, c.requires.on_chain)
+pub loop-p-init : goal.loop-p-init
+loop-p-init c = listed_starts _ _ _ _ c.requires.on_chain
 
-pub advance_on_chain-step-requires : goal.advance_on_chain-step-requires
-advance_on_chain-step-requires c = record { shaped = shape_if_well_formed _ _ c.requires.well_formed; on_chain = c.loop-window.invariant.1 }
-
-pub shape_of-report-then-step-eq0 : goal.shape_of-report-then-step-eq0
-shape_of-report-then-step-eq0 c = reported_length c.loop-window.invariant.0 c.requires.room
-
-pub returns-then-step-eq0 : goal.returns-then-step-eq0
-returns-then-step-eq0 c = reported_all c.loop-window.invariant.0 c.advance_on_chain-step.ensures c.if-step-eq0.true
+-- the step that answered p
+stepped : (c : In-Some) → Came (checked_of c.args.arena) c.args.window (walk_of c.loop-p.walk) c.advance_on_chain.new.self c.in-Some.p
+stepped c = came _ _ _ _ _ c.args.arena.passed c.loop-p.invariant.on_chain (rw c.arena.ensures at c.in-Some.ensures.step) c.in-Some.ensures.some
 
 pub is_due-requires : goal.is_due-requires
-is_due-requires c = let s = step_slot (shape_if_well_formed _ _ c.requires.well_formed) _ c.advance_on_chain-step.ensures c.if-step-eq0.false in record { in_column = (s.some, s.within); window = c.requires.window }
-
-pub overflow_cast-report : goal.overflow_cast-report
-overflow_cast-report c = omega (arith, passed_few c.loop-window.invariant.0.passed c.advance_on_chain-step.ensures c.if-step-eq0.false (sym c.is_due.ensures ∙ c.if-is_due.true))
-
-pub offset_bounds-report-reported : goal.offset_bounds-report-reported
-offset_bounds-report-reported c = omega (arith, passed_few c.loop-window.invariant.0.passed c.advance_on_chain-step.ensures c.if-step-eq0.false (sym c.is_due.ensures ∙ c.if-is_due.true))
+is_due-requires c = (stepped (goal.at.is_due-requires c).In-Some).place
 
 pub bounds-report-reported : goal.bounds-report-reported
-bounds-report-reported c = reported_room c.loop-window.invariant.0 c.advance_on_chain-step.ensures c.if-step-eq0.false c.requires.room (sym c.is_due.ensures ∙ c.if-is_due.true)
+bounds-report-reported c = listed_room c.loop-p.invariant (stepped (goal.at.bounds-report-reported c).In-Some) (sym c.if-is_due.ensures) c.requires.room
 
 pub overflow_add-reported : goal.overflow_add-reported
-overflow_add-reported c = omega (arith, passed_few c.loop-window.invariant.0.passed c.advance_on_chain-step.ensures c.if-step-eq0.false (sym c.is_due.ensures ∙ c.if-is_due.true))
+overflow_add-reported c =
+    let s = stepped (goal.at.overflow_add-reported c).In-Some in
+    let h = c.loop-p.invariant in
+    omega (arith, h.size, ap length h.all, length-append h.listed (due_ahead (checked_of c.args.arena) c.args.window (walk_of c.loop-p.walk)), ap length (s.yes (sym c.if-is_due.ensures)), due_short (checked_of c.args.arena) c.args.window (walk_of c.args.walk))
 
-pub loop-window-smaller-then-is_due : goal.loop-window-smaller-then-is_due
-loop-window-smaller-then-is_due c = ahead_less _ _ _ c.advance_on_chain-step.ensures c.if-step-eq0.false
+pub loop-p-smaller-then-is_due : goal.loop-p-smaller-then-is_due
+loop-p-smaller-then-is_due c = (stepped (goal.at.loop-p-smaller-then-is_due c).In-Some).less
 
-pub loop-window-preserved-then-is_due : goal.loop-window-preserved-then-is_due
-loop-window-preserved-then-is_due c = (reported_yes c.loop-window.invariant.0 c.advance_on_chain-step.ensures c.if-step-eq0.false c.requires.room (sym c.is_due.ensures ∙ c.if-is_due.true), step_on_chain c.requires.well_formed _ c.advance_on_chain-step.ensures c.loop-window.invariant.1)
+pub loop-p-preserved-then-is_due : goal.loop-p-preserved-then-is_due
+loop-p-preserved-then-is_due c = listed_yes c.loop-p.invariant (stepped (goal.at.loop-p-preserved-then-is_due c).In-Some) (sym c.if-is_due.ensures) c.requires.room
 
-pub loop-window-smaller : goal.loop-window-smaller
-loop-window-smaller c = ahead_less _ _ _ c.advance_on_chain-step.ensures c.if-step-eq0.false
+pub loop-p-smaller : goal.loop-p-smaller
+loop-p-smaller c = (stepped (goal.at.loop-p-smaller c).In-Some).less
 
-pub loop-window-preserved : goal.loop-window-preserved
-loop-window-preserved c = (reported_no c.loop-window.invariant.0 c.advance_on_chain-step.ensures c.if-step-eq0.false (sym c.is_due.ensures ∙ c.if-is_due.false), step_on_chain c.requires.well_formed _ c.advance_on_chain-step.ensures c.loop-window.invariant.1)
+pub loop-p-preserved : goal.loop-p-preserved
+loop-p-preserved c = listed_no c.loop-p.invariant (stepped (goal.at.loop-p-preserved c).In-Some) (sym c.if-is_due.ensures)
+
+pub returns : goal.returns
+returns c = listed_all c.loop-p.invariant (due_none (checked_of c.args.arena) c.args.window _ _ (rw c.arena.ensures at c.in_default.ensures.step))

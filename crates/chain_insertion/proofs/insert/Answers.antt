@@ -1,24 +1,15 @@
--- `chain_insertion::insert` meets its contract. The slot is 0 exactly where there is no room, and the kind has its place whatever the slot is, so that 17 comes before 18. Assumes nothing.
-use Rattle.chain_insertion.proofs.Insertions.{roomy, no_slot, room, new_slot_lem, no_place, no_room, put_in, insertable}
+-- `chain_insertion::insert` meets its contract. What is well formed has the shape of an arena, and what a link in the chosen slot needs. Assumes nothing.
+use mathlib.Core.Path.{sym, ◌∙◌}
+use Rattle.chain_insertion.proofs.Insertions.{insertable}
 use Rattle.well_formed.proofs.WellFormed.{shape_if_well_formed}
 use Rattle.chain_insertion.proofs.insert.Goals as goal
 
-pub new_slot-t-requires : goal.new_slot-t-requires
-new_slot-t-requires c = roomy c.requires
-
-pub check_link_insert_kind-requires : goal.check_link_insert_kind-requires
-check_link_insert_kind-requires c = shape_if_well_formed _ _ c.requires
-
-pub returns-then-t-eq0 : goal.returns-then-t-eq0
-returns-then-t-eq0 c = no_room _ _ _ _ _ _ c.in-Between.ensures (no_slot _ c.new_slot-t.ensures c.if-t-eq0.true)
+pub shaped-now-requires : goal.shaped-now-requires
+shaped-now-requires c = rw c.lent.ensures (shape_if_well_formed _ _ c.requires)
 
 pub insert_between-requires : goal.insert_between-requires
-insert_between-requires c = insertable _ _ _ _ c.requires c.new_slot-t.ensures c.if-t-eq0.false c.in-Between.ensures
-
-pub returns-in-Nowhere : goal.returns-in-Nowhere
-returns-in-Nowhere c = no_place _ _ _ _ c.in-Nowhere.ensures
-
-pub returns-else-t-eq0 : goal.returns-else-t-eq0
-returns-else-t-eq0 c =
-    let slot = c.new_slot-t.ensures in
-    put_in _ _ _ _ _ _ c.in-Between.ensures (room _ slot c.if-t-eq0.false) (new_slot_lem _ slot c.if-t-eq0.false) c.insert_between.ensures
+insert_between-requires c =
+    let same = c.shaped-now.ensures ∙ c.lent.ensures in
+    let chosen = rw c.capacity.ensures at c.new_slot-t.ensures in
+    let placed = rw c.in_ok-place.ensures.ok_part at c.check_link_insert_kind.ensures in
+    rw (← same) (insertable _ _ _ _ (rw (← same) at c.requires) chosen (sym c.if-eq.ensures) placed)

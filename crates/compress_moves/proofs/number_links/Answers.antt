@@ -1,33 +1,34 @@
 use mathlib.Core.Path.{refl}
 use native.Mathlib.Omega.{arith}
 use Rattle.definitions.specs.Arena.{arena}
-use Rattle.compress_moves.proofs.Numbers.{numbering_starts, numbering_within, numbering_skips, numbering_names, numbering_done, numbered_any}
+use Rattle.compress_moves.proofs.Numbers.{numbering_starts, numbering_room, numbering_within, numbering_skips, numbering_names, numbering_done, numbered_any, words_told}
 use Rattle.compress_moves.proofs.number_links.Goals as goal
-use Rattle.compress_moves.proofs.number_links.Goals.{else-old-ne0, then-old-ne0}
+use Rattle.compress_moves.proofs.number_links.Goals.{then-old-eq0, else-old-eq0}
 
 pub loop-count-init : goal.loop-count-init
-loop-count-init c = numbering_starts _ _ _ _ _
+loop-count-init c n h e = numbering_starts _ _ _ _ _
 
 pub bounds-generation-i : goal.bounds-generation-i
-bounds-generation-i c = omega (arith, numbering_within c.loop-count.invariant c.requires.2 c.loop-count-test.true)
+bounds-generation-i c = omega (arith, numbering_room c.requires c.loop-count.invariant c.loop-count-test.true)
 
 pub tell_move-requires : goal.tell_move-requires
-tell_move-requires c = omega (arith, numbering_within c.loop-count.invariant c.requires.2 c.loop-count-test.true)
+tell_move-requires c = omega (arith, numbering_room c.requires c.loop-count.invariant c.loop-count-test.true)
 
 pub bounds-generation-i-in-loop-count : goal.bounds-generation-i-in-loop-count
-bounds-generation-i-in-loop-count c = omega (arith, numbering_within c.loop-count.invariant c.requires.2 c.loop-count-test.true)
+bounds-generation-i-in-loop-count c = omega (arith, numbering_room c.requires c.loop-count.invariant c.loop-count-test.true)
 
 pub loop-count-smaller : goal.loop-count-smaller
-loop-count-smaller c = let more = numbering_within c.loop-count.invariant c.requires.2 c.loop-count-test.true in omega arith
+loop-count-smaller c = omega (arith, numbering_room c.requires c.loop-count.invariant c.loop-count-test.true)
 
 pub loop-count-preserved : goal.loop-count-preserved
-loop-count-preserved c =
-    let more = numbering_within c.loop-count.invariant c.requires.2 c.loop-count-test.true in
-    let words = c.tell_move.ensures in
-    elim c.if-old-ne0.branch [
-      | then-old-ne0 w ↦ rw (w.count-is, w.number-is, words) (numbering_names c.loop-count.invariant more w.if-old-ne0.true c.requires.1 c.requires.2 c.requires.3)
-      | else-old-ne0 w ↦ rw (w.count-is, w.number-is, words) (numbering_skips c.loop-count.invariant more c.requires.1 w.if-old-ne0.false c.loop-count-test.true)
+loop-count-preserved c n h e =
+    let so_far = c.loop-count.invariant n h e in
+    let more = numbering_within so_far e c.loop-count-test.true in
+    let told = words_told _ _ _ _ _ c.tell_move.ensures c.new.ensures c.new-in-loop-count.ensures in
+    elim c.if-old-eq0.branch [
+      | then-old-eq0 w ↦ rw (w.count-is, w.generation-is, told) (numbering_skips so_far more h w.if-old-eq0.true c.loop-count-test.true)
+      | else-old-eq0 w ↦ rw (w.count-is, w.generation-is, told) (numbering_names so_far more w.if-old-eq0.false h e (omega (arith, c.requires)))
     ]
 
 pub returns : goal.returns
-returns c ps ns vs h = numbered_any (arena ps ns _ vs h) refl (numbering_done c.requires.2 c.requires.1 c.loop-count.invariant c.loop-count-test.false)
+returns c n h e ps ns vs w = numbered_any (arena ps ns _ vs w) refl (numbering_done e h (c.loop-count.invariant n h e) c.loop-count-test.false)

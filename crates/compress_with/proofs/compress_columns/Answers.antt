@@ -2,25 +2,29 @@
 -- `relocate` (Relocated). Assumes nothing.
 use mathlib.Core.List.{[]}
 use native.Mathlib.Omega.{arith}
-use Rattle.definitions.proofs.Slots.{links_and_free}
-use Rattle.compress_with.proofs.Relocated.{movable, relocated}
+use Rattle.compress_with.proofs.Relocated.{movable, shrinkable, relocated}
 use Rattle.compress_with.proofs.compress_columns.Goals as goal
 
-pub move_down-requires : goal.move_down-requires
-move_down-requires c =
-    let says = c.number_links.ensures [] [] [] [] in
-    rw says.named (movable c.requires _ _ _ says.reported (omega (arith, c.number_links.auto)))
+pub number_links-requires : goal.number_links-requires
+number_links-requires c = let can = c.requires.compressible in (_, can.small, can.generation_within, can.counted, can.room)
 
-pub fill_generation-requires : goal.fill_generation-requires
-fill_generation-requires c = omega (arith, c.requires, c.number_links.auto, links_and_free c.args.generation.now c.args.n)
+pub move_down-requires-clause-movable : goal.move_down-requires-clause-movable
+move_down-requires-clause-movable c =
+    let can = c.requires.compressible in
+    let says = c.number_links.ensures _ can.generation_within can.counted c.args.arena.now.prev.now c.args.arena.now.next.now c.args.arena.now.payload.now c.args.arena.now.header.now in
+    rw says.named (movable can _ _ _ says.reported (omega (arith, c.number_links.auto)))
 
-pub pop_slots-requires : goal.pop_slots-requires
-pop_slots-requires c = omega (arith, c.requires, c.number_links.auto, c.move_down.auto, c.fill_generation.auto, links_and_free c.args.generation.now c.args.n)
+pub shrink-requires : goal.shrink-requires
+shrink-requires c =
+    let can = c.requires.compressible in
+    let says = c.number_links.ensures _ can.generation_within can.counted [] [] [] [] in
+    shrinkable can says.named c.move_down.ensures.moved c.requires.header
 
-pub returns : goal.returns
-returns c =
-    let says = c.number_links.ensures in
-    let named = (says [] [] [] []).named in
-    let moves = rw named at c.move_down.ensures in
-    let fills = rw named at c.fill_generation.ensures in
-    let pops = c.pop_slots.ensures in record { moved = λ h e. rw (pops.0, pops.1, pops.2, pops.3) (relocated c.requires _ moves.0 moves.1 moves.2 fills h e); reported = (λ h. (says _ _ _ h).reported) }
+pub returns-clause-moved : goal.returns-clause-moved
+returns-clause-moved c =
+    let can = c.requires.compressible in
+    let says = c.number_links.ensures _ can.generation_within can.counted [] [] [] [] in
+    relocated can says.named c.move_down.ensures.moved c.shrink.ensures.shrunk
+
+pub returns-clause-reported : goal.returns-clause-reported
+returns-clause-reported c = let can = c.requires.compressible in (c.number_links.ensures _ can.generation_within can.counted _ _ _ _).reported

@@ -1,11 +1,7 @@
--- `small_layout::lay_words` meets its contract. The loop's invariant is `Laying`: the digits of the slots that were passed stand at the front. The measure is
--- what is left of the slots. Assumes nothing.
-use Prim.Native.Nat.{◌-◌}
-use Rattle.small_layout.proofs.Laying as laying
+-- `small_layout::lay_words` meets its contract. The loop's invariant: the digits of the slots that were passed stand at the front. Assumes nothing.
+use Rattle.std.proofs.Common.{◌≡◌, take}
+use Rattle.all_small.proofs.Packed.{after, digits}
 use Rattle.small_layout.proofs.lay_words.Given as goal
 
-abbrev pub invariant-loop-i : goal.invariant-loop-i
-invariant-loop-i l = laying.Laying l.weight l.rows l.n l.initial.column l.column l.rest l.i
-
-abbrev pub decreases-loop-i : goal.decreases-loop-i
-decreases-loop-i l = l.n - l.i
+abbrev pub invariant-loop-word : goal.invariant-loop-word
+invariant-loop-word l = (l.rest ≡ after l.rows l.word-index) × (take l.word-index l.word-items ≡ digits l.weight l.rows l.word-index)

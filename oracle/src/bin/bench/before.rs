@@ -41,7 +41,7 @@ struct Before;
 
 impl Landing for Before {
     const NAME: &'static str = "before";
-    type Slot = u16;
+    type Slot = u32;
 }
 
 /// The present landing.

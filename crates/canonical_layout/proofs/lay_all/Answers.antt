@@ -1,0 +1,38 @@
+use mathlib.Core.Path.{refl, ◌∙◌}
+use native.Mathlib.Omega.{arith}
+use Rattle.canonical_layout.proofs.ChainsInPlace.{laying_starts, laying_ends, laying_long, laying_goes_on, some_rooted, some_chain, some_more, ready_small}
+use Rattle.canonical_layout.proofs.lay_all.Goals as goal
+
+pub loop-found-init : goal.loop-found-init
+loop-found-init c = record { laying = laying_starts _; within = omega arith; lent = (refl, refl, refl, refl) }
+
+pub lowest_link-requires : goal.lowest_link-requires
+lowest_link-requires c = omega (arith, laying_long c.loop-found.invariant.laying c.requires, ready_small c.requires)
+
+pub start_of-start-requires : goal.start_of-start-requires
+start_of-start-requires c = some_rooted c.loop-found.invariant.laying c.in-Some.ensures.lowest c.in-Some.ensures.some c.requires
+
+pub lay_chain-laid-requires : goal.lay_chain-laid-requires
+lay_chain-laid-requires c = some_chain c.loop-found.invariant.laying c.in-Some.ensures.lowest c.in-Some.ensures.some c.start_of-start.ensures c.requires
+
+pub loop-found-smaller : goal.loop-found-smaller
+loop-found-smaller c =
+    let laying = c.loop-found.invariant.laying in
+    let more = some_more laying c.in-Some.ensures.lowest c.in-Some.ensures.some c.start_of-start.ensures c.lay_chain-laid.ensures.laid c.requires in
+    omega (arith, more, laying_long laying c.requires)
+
+pub loop-found-preserved : goal.loop-found-preserved
+loop-found-preserved c =
+    let found = c.in-Some.ensures in
+    let start = c.start_of-start.ensures in
+    let laid = c.lay_chain-laid.ensures in
+    let laying = c.loop-found.invariant.laying in
+    let same = c.loop-found.invariant.lent in
+    record {
+      laying = rw c.max-passed.ensures (laying_goes_on laying found.lowest found.some start laid.laid);
+      within = omega (arith, c.max-passed.ensures, some_more laying found.lowest found.some start laid.laid c.requires);
+      lent = (laid.lent.0 ∙ same.0, laid.lent.1 ∙ same.1, laid.lent.2 ∙ same.2, laid.lent.3 ∙ same.3);
+    }
+
+pub returns-clause-laid : goal.returns-clause-laid
+returns-clause-laid c = laying_ends c.loop-found.invariant.laying c.in_default.ensures.lowest

@@ -1,0 +1,223 @@
+// A case: its call, the arena, the arguments and the lent slice, as its line has them.
+ghost use Rattle.std.specs.Prelude.{◌≡◌, ◌+◌, ◌∷◌, ◌++◌, IfOk, slice_index_or};
+ghost use Rattle.definitions.specs.Read.{pointer};
+ghost use Rattle.lent.specs.Arenas.{lent_of, held_in, links_of, header_of};
+ghost use Rattle.ptr.specs.Pointers.{pointer_of};
+ghost use Rattle.replay_cases.specs.Owned.{owned_in};
+
+use crate::calls::Call;
+use crate::replies::Reply;
+use answers::Answer;
+use lent::{ArenaMut, HeaderMut, LentArena, LinksMut};
+use ptr::Ptr;
+use std::alloc::{AllocError, Global};
+use std::iter::Take;
+use std::str::Split;
+
+// How many words of a line are read at most.
+const LINE_WORDS: usize = 192;
+
+// How many words a column, the arguments or the lent slice have at most.
+const PART_WORDS: u32 = 64;
+
+// How many words a header has.
+const HEADER_WORDS: usize = 4;
+
+// The words of a line that are not read yet.
+#[derive(Drop)]
+struct Words<'a> {
+    rest: Take<Split<'a, char>>,
+}
+
+impl Words<'_> {
+    // The next word, 0 behind the last. What is no number of 32 bits counts as 0.
+    fn word(&mut self) -> u32 {
+        self.rest
+            .next()
+            .and_then(|word| word.parse().ok())
+            .unwrap_or(0)
+    }
+
+    // The next word as a number of words.
+    fn count(&mut self) -> usize {
+        self.word().min(PART_WORDS) as usize
+    }
+
+    // The next n words.
+    fn part(&mut self, alloc: Global, n: usize) -> Result<Vec<u32>, AllocError> {
+        (0..n).map(|_| self.word()).collect(alloc)
+    }
+}
+
+// The columns and the header of a case.
+#[derive(Drop)]
+pub struct OwnedArena {
+    prev: Vec<u32>,
+    next: Vec<u32>,
+    generation: Vec<u32>,
+    payload: Vec<u32>,
+    header: Vec<u32>,
+}
+
+impl OwnedArena {
+    // This arena, lent to be read.
+    pub fn lent(&self) -> LentArena<'_>
+        ensures { lent_of result ≡ owned_in self.now }
+    {
+        LentArena {
+            prev: &self.prev,
+            next: &self.next,
+            generation: &self.generation,
+            payload: &self.payload,
+            header: &self.header,
+        }
+    }
+
+    // This arena, lent to be written.
+    pub fn lent_mut(&mut self) -> ArenaMut<'_>
+        ensures { held_in result ≡ owned_in self.old }
+    {
+        ArenaMut {
+            prev: &mut self.prev,
+            next: &mut self.next,
+            generation: &mut self.generation,
+            payload: &mut self.payload,
+            header: &mut self.header,
+        }
+    }
+
+    // This arena, with its link columns lent to be written.
+    pub fn links_mut(&mut self) -> LinksMut<'_>
+        ensures { links_of result ≡ owned_in self.old }
+    {
+        LinksMut {
+            prev: &mut self.prev,
+            next: &mut self.next,
+            generation: &self.generation,
+            payload: &self.payload,
+            header: &self.header,
+        }
+    }
+
+    // This arena, with its header lent to be written.
+    pub fn header_mut(&mut self) -> HeaderMut<'_>
+        ensures { header_of result ≡ owned_in self.old }
+    {
+        HeaderMut {
+            prev: &self.prev,
+            next: &self.next,
+            generation: &self.generation,
+            payload: &self.payload,
+            header: &mut self.header,
+        }
+    }
+
+    // Takes the last word of what a shape names.
+    fn cut(&mut self, shape: u32) {
+        match shape {
+            1 => self.prev.pop(),
+            2 => self.next.pop(),
+            3 => self.generation.pop(),
+            4 => self.payload.pop(),
+            5 => self.header.pop(),
+            _ => None,
+        };
+    }
+}
+
+// The argument words of a case.
+#[derive(Drop)]
+pub struct Arguments {
+    pub words: Vec<u32>,
+}
+
+impl Arguments {
+    // The word at a place, 0 behind the last.
+    pub fn word(&self, i: usize) -> u32
+        ensures { result ≡ slice_index_or self.now.words.items i 0 }
+    {
+        self.words.get(i).copied().unwrap_or(0)
+    }
+
+    // The pointer whose slot is the word at a place and whose generation is the one behind it.
+    pub fn pointer(&self, i: usize) -> Ptr
+        ensures { pointer_of result ≡ pointer (slice_index_or self.now.words.items i 0) (slice_index_or self.now.words.items (i + 1) 0) }
+    {
+        Ptr::new(self.word(i), self.word(i.saturating_add(1)))
+    }
+}
+
+// A case. It has no call if no call has its code.
+#[derive(Drop)]
+pub struct Case {
+    pub call: Option<Call>,
+    pub arena: OwnedArena,
+    pub arguments: Arguments,
+    pub lent: Vec<u32>,
+    alloc: Global,
+}
+
+impl Case {
+    // The case of a line, if its code is not 0.
+    pub(crate) fn parse(alloc: Global, line: &str) -> Result<Option<Case>, AllocError> {
+        let mut words = Words {
+            rest: line.split(' ').take(LINE_WORDS),
+        };
+        let code = words.word();
+        if code == 0 {
+            return Ok(None);
+        }
+        let slots = words.count();
+        let shape = words.word();
+        let mut arena = OwnedArena {
+            prev: words.part(alloc, slots)?,
+            next: words.part(alloc, slots)?,
+            generation: words.part(alloc, slots)?,
+            payload: words.part(alloc, slots)?,
+            header: words.part(alloc, HEADER_WORDS)?,
+        };
+        arena.cut(shape);
+        let argument_words = words.count();
+        let arguments = Arguments {
+            words: words.part(alloc, argument_words)?,
+        };
+        let lent_words = words.count();
+        Ok(Some(Case {
+            call: Call::try_from(code).ok(),
+            arena,
+            arguments,
+            lent: words.part(alloc, lent_words)?,
+            alloc,
+        }))
+    }
+
+    // The reply of a call on the case's arena: its answer and its further fields, and what it left.
+    pub fn reply(&self, answer: Answer, fields: &[u32]) -> Result<Reply, AllocError>
+        ensures { IfOk result (λ r. r.words.items ≡ answer.number ∷ answer.broken ∷ answer.side ∷ (fields.now ++ (self.now.lent.items ++ (self.now.arena.prev.items
+            ++ (self.now.arena.next.items ++ (self.now.arena.generation.items ++ (self.now.arena.payload.items ++ self.now.arena.header.items))))))) }
+    {
+        let head = [answer.number, answer.broken, answer.side];
+        let arena = self.arena.lent();
+        let words = [
+            head.as_slice(),
+            fields,
+            self.lent.as_slice(),
+            arena.prev,
+            arena.next,
+            arena.generation,
+            arena.payload,
+            arena.header,
+        ]
+        .concat(self.alloc)?;
+        Ok(Reply { words })
+    }
+
+    // The reply of a call that takes no arena.
+    pub fn reply_alone(&self, words: &[u32]) -> Result<Reply, AllocError>
+        ensures { IfOk result (λ r. r.words.items ≡ words.now) }
+    {
+        Ok(Reply {
+            words: words.to_vec(self.alloc)?,
+        })
+    }
+}
