@@ -14,7 +14,7 @@ use Rattle.definitions.specs.Calls.{Call, Check, IncGeneration, accepted, reply_
 use Rattle.answers.specs.declared.Answer.{Answer}
 use Rattle.answers.specs.Answered.{Verdict, replied, Answered}
 use Rattle.answers.specs.Words.{answer_of, refusal_answer, done_answer, invalidation_answer}
-use Rattle.std.specs.Prelude.{Result, Ok, Err}
+use Rattle.std.specs.Prelude.{Ok, Err}
 use Rattle.ptr.specs.declared.InvalidationOption.TheVariants.{Success, GenerationOverflow}
 use Rattle.refusals.specs.declared.Refusal.{Refusal}
 use Rattle.refusals.specs.Refusal.{refusal_number, refusal_slot, refusal_side}

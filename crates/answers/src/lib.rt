@@ -1,21 +1,25 @@
 // What every exported call on an arena has in common: the check that it makes first, and the words that its result begins with.
 #![tactic(auto)]
 
-ghost use Rattle.std.specs.Prelude.{◌≡◌};
+ghost use Rattle.std.specs.Prelude.{◌≡◌, ℕ, List, [], ◌∷◌};
+ghost use Rattle.definitions.specs.Arena.{Arena};
 ghost use Rattle.ptr.specs.Extra.{invalidation_number};
 ghost use Rattle.lent.specs.Arenas.{lent_of};
-ghost use Rattle.answers.specs.Answered.{Verdict};
+ghost use Rattle.links.specs.Links.{no_gen_words, removed_reply};
+ghost use Rattle.refusals.specs.Refusal.{result_reply};
+ghost use Rattle.answers.specs.Answered.{Verdict, replied};
 ghost use Rattle.answers.specs.Words.{answer_of, refusal_answer, done_answer, invalidation_answer};
 
 use chain_arena::check;
 use lent::LentArena;
+use links::{InvalidationResult, LinkNoGen};
 use ptr::InvalidationOption;
 use refusals::Refusal;
 
 // What the result of every exported call on an arena begins with: its number, and with 11 the lowest slot at which that rule fails and the side, 1 for prev and 2 for next; in every
 // other case slot and side are 0 (REFERENCE, Replies).
 #[repr(C)]
-#[derive(Clone, Copy)]
+#[derive(Clone, Copy, Default)]
 pub struct Answer {
     pub number: u32,
     pub broken: u32,
@@ -23,6 +27,13 @@ pub struct Answer {
 }
 
 impl Answer {
+    // The answer of a call that is done.
+    pub const DONE: Answer = Answer {
+        number: 0,
+        broken: 0,
+        side: 0,
+    };
+
     // The answer of a call on an arena that passed the check.
     pub fn of(number: u32) -> Answer
         ensures { result ≡ answer_of number }
@@ -63,7 +74,7 @@ impl From<Result<(), Refusal>> for Answer {
 
     fn from(done: Result<(), Refusal>) -> Answer {
         match done {
-            Ok(()) => Answer::of(0),
+            Ok(()) => Answer::DONE,
             Err(refusal) => Answer::from(refusal),
         }
     }
@@ -83,12 +94,66 @@ impl From<Result<InvalidationOption, Refusal>> for Answer {
 
 // A link, as it is or as it was when it was removed; slot 0 where there is no neighbour.
 #[repr(C)]
-#[derive(Clone, Copy)]
+#[derive(Clone, Copy, Default)]
 pub struct LinkNoGenResult {
     pub answer: Answer,
     pub prev: u32,
     pub next: u32,
     pub payload: u32,
+}
+
+impl LinkNoGenResult {
+    // The answer with the words of a link.
+    fn of(answer: Answer, link: LinkNoGen) -> LinkNoGenResult
+        ensures { (result.answer ≡ answer) × (result.prev ≡ link.prev.0) × (result.next ≡ link.next.0) × (result.payload ≡ link.t) }
+    {
+        LinkNoGenResult {
+            answer,
+            prev: link.prev.0,
+            next: link.next.0,
+            payload: link.t,
+        }
+    }
+}
+
+// The answer of a call that gives no link.
+impl From<Refusal> for LinkNoGenResult {
+    ghost from_gives = { λ r a. (a.answer ≡ refusal_answer r) × (a.prev ≡ 0) × (a.next ≡ 0) × (a.payload ≡ 0) };
+
+    fn from(refusal: Refusal) -> LinkNoGenResult {
+        LinkNoGenResult {
+            answer: Answer::from(refusal),
+            ..LinkNoGenResult::default()
+        }
+    }
+}
+
+// The link that was read, or the refusal.
+impl From<Result<LinkNoGen, Refusal>> for LinkNoGenResult {
+    ghost from_gives = { λ r a. (b : Arena) (l : List ℕ) → replied a.answer (a.prev ∷ a.next ∷ a.payload ∷ []) b l ≡ result_reply no_gen_words 3 r b l };
+
+    fn from(read: Result<LinkNoGen, Refusal>) -> LinkNoGenResult {
+        match read {
+            Ok(link) => LinkNoGenResult::of(Answer::DONE, link),
+            Err(refusal) => LinkNoGenResult::from(refusal),
+        }
+    }
+}
+
+// The link that was removed, as it was, or the refusal.
+impl From<Result<InvalidationResult, Refusal>> for LinkNoGenResult {
+    ghost from_gives = { λ r a. (b : Arena) (l : List ℕ) → replied a.answer (a.prev ∷ a.next ∷ a.payload ∷ []) b l ≡ removed_reply r b l };
+
+    fn from(removed: Result<InvalidationResult, Refusal>) -> LinkNoGenResult {
+        match removed {
+            Ok(InvalidationResult::Success(link)) => LinkNoGenResult::of(Answer::DONE, link),
+            Ok(InvalidationResult::GenerationOverflow(link)) => {
+                LinkNoGenResult::of(Answer::from(InvalidationOption::GenerationOverflow), link)
+            }
+            Ok(InvalidationResult::InvalidPtr) => LinkNoGenResult::from(Refusal::StalePointer),
+            Err(refusal) => LinkNoGenResult::from(refusal),
+        }
+    }
 }
 
 // The check of a lent arena, as it is answered: 0, or the refusal of every call on this arena.
@@ -97,7 +162,7 @@ pub fn checked(arena: LentArena<'_>) -> Answer
     ensures { Verdict (lent_of arena.entry) result }
 {
     match check(arena) {
-        Ok(_) => Answer::of(0),
+        Ok(_) => Answer::DONE,
         Err(refusal) => Answer::from(refusal),
     }
 }

@@ -1,8 +1,8 @@
 -- The links among the first slots, one slot more at a time, as the counting loop reads them. Assumes nothing.
 use Prim.Native.Nat.{ℕ, suc, ◌+◌, ◌-◌, ◌≤◌, ◌<◌}
-use mathlib.Core.Path.{◌≡◌, refl, ◌∙◌}
-use mathlib.Core.Bool.{cond, not}
-use mathlib.Core.List.{List}
+use mathlib.Core.Path.{◌≡◌, refl, sym, ◌∙◌}
+use mathlib.Core.Bool.{true, cond, not}
+use mathlib.Core.List.{List, []}
 use native.Mathlib.Omega.{arith}
 use native.Mathlib.Numerals.{add-one}
 use lib.ListN.{length, get_or}
@@ -13,6 +13,7 @@ use Rattle.definitions.specs.Check.{freelist_walk, counts_of}
 use Rattle.definitions.proofs.Tests.{tests}
 use Rattle.definitions.proofs.Columns.{at_suc}
 use Rattle.definitions.proofs.Slots.{allocated_yes, allocated_free, keep_more, keep_same, links_and_free}
+use Rattle.base_arena.specs.AllFree.{Walks}
 
 module _ (gs : List ℕ) (n : ℕ) where
   -- how many of the slots 1 to i are links
@@ -62,10 +63,16 @@ module _ (ns gs : List ℕ) (n m s k : ℕ) (counted : k ≡ length (link_slots 
     pub walked : (r : ℕ) → (s ≡ 0 → ⊥) → (n - k ≡ 0 → ⊥) → r ≡ freelist_walk ns gs n (n + 2) s 0 → r ≡ counts_of ns gs n m s
     walked r d f q = by_count r (search tests)
 
+    -- every slot is free
+    pub walked_all : (r : ℕ) → (s ≡ 0 → ⊥) → (n - k ≡ 0 → ⊥) → n ≡ length ns → n - k ≡ n → Walks true ns [] s r → r ≡ counts_of ns gs n m s
+    walked_all r d f size all q =
+        let counted_all : length ns ≡ length (free_slots gs (length ns)) = rw size at (sym all ∙ free_left gs n k counted) in
+        walked r d f (rw (sym size) at (q gs counted_all))
+
 -- how many are links, at the most
 pub links_at_most : (gs : List ℕ) (n k : ℕ) → k ≡ length (link_slots gs n) → k ≤ n
 links_at_most gs n k e = omega (arith, links_and_free gs n)
 
 pub ruleset counting_links = (links_none, links_all, links_more, links_same)
 
-pub ruleset counting_slots = (free_left, count_differs, root_but_no_free, free_but_no_root, none_free, walked, links_at_most)
+pub ruleset counting_slots = (free_left, count_differs, root_but_no_free, free_but_no_root, none_free, walked_all, walked, links_at_most)

@@ -1,1 +1,2 @@
+pub mod AllFree
 pub mod Shape

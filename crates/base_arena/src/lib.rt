@@ -1,11 +1,12 @@
 // The check of slots and freelist (arena/base_arena.rs, `_check_invariants`): refusals 1 to 10 of a lent arena.
 #![tactic(auto)]
 
-ghost use Rattle.std.specs.Prelude.{◌≡◌, ◌+◌, ◌-◌, ◌≤◌, ◌<◌, not, eqb, get_or, length, IsTrue};
+ghost use Rattle.std.specs.Prelude.{◌≡◌, ◌≤◌, ◌<◌, false, cond, length};
 ghost use Rattle.definitions.specs.Arena.{capacity_limit, link_slots, free_slots};
-ghost use Rattle.definitions.specs.Check.{misshapen, freelist_walk, counts_of};
+ghost use Rattle.definitions.specs.Check.{misshapen, counts_of};
 ghost use Rattle.lent.specs.Arenas.{lent_of};
 ghost use Rattle.refusals.specs.Refusal.{ok_or_number};
+ghost use Rattle.base_arena.specs.AllFree.{Reads, Walks};
 ghost use Rattle.base_arena.specs.Shape.{Shapes};
 
 use header::{CURRENT_GENERATION, HEADER_WORDS, LINK_COUNT, STACK_LENGTH};
@@ -63,16 +64,17 @@ pub fn allocated_slots(generation: &[u32]) -> u32
 }
 
 // Whether a slot of a stack is a link. Where each slot is free none is, and no generation is read.
-#[tactic(auto, using(crate::proofs::Walk::free_here))]
+#[tactic(auto, using(crate::proofs::Walk::link_read))]
 fn is_link<const ALL_FREE: bool>(generation: &[u32], slot: usize) -> bool
-    requires in_stack { (0 < slot) × (slot ≤ length generation.now) }
-    requires all_free { IsTrue ALL_FREE → length generation.now ≡ length (free_slots generation.now (length generation.now)) }
-    ensures { result ≡ not (eqb (get_or generation.now (slot - 1) 0) 0) }
+    requires some { 0 < slot }
+    requires in_column { ALL_FREE ≡ false → slot ≤ length generation.now }
+    ensures { Reads ALL_FREE generation.now slot result }
 {
     !ALL_FREE && generation[slot - 1] != 0
 }
 
-// Walks the freelist of a stack, of which so many slots are free, from the root: refusals 6 to 10. Where each slot is free, no generation is read.
+// Walks the freelist of a stack, of which so many slots are free, from the root: refusals 6 to 10. Where each slot is free, no generation is read: the column
+// may be empty.
 #[tactic(auto, using(crate::proofs::Walk::visits))]
 pub fn freelist<const ALL_FREE: bool>(
     next: &[u32],
@@ -80,13 +82,12 @@ pub fn freelist<const ALL_FREE: bool>(
     root: usize,
     free: usize,
 ) -> Result<(), Refusal>
-    requires same_length { length next.now ≡ length generation.now }
-    requires small { length generation.now ≤ capacity_limit }
-    requires counted { free ≡ length (free_slots generation.now (length generation.now)) }
-    requires all_free { IsTrue ALL_FREE → free ≡ length generation.now }
-    ensures { ok_or_number result ≡ freelist_walk next.now generation.now (length generation.now) (length generation.now + 2) root 0 }
+    requires small { length next.now ≤ capacity_limit }
+    requires same_length { ALL_FREE ≡ false → length generation.now ≡ length next.now }
+    requires counted { free ≡ cond ALL_FREE (length next.now) (length (free_slots generation.now (length next.now))) }
+    ensures { Walks ALL_FREE next.now generation.now root (ok_or_number result) }
 {
-    let n = generation.len();
+    let n = next.len();
     let mut slot = root;
     for visited in 0..n + 2 {
         if slot == 0 {
@@ -133,7 +134,7 @@ pub fn counts(next: &[u32], generation: &[u32], links: u32, root: usize) -> Resu
         return Ok(());
     }
     if free == n {
-        return freelist::<true>(next, generation, root, free);
+        return freelist::<true>(next, &[], root, free);
     }
     freelist::<false>(next, generation, root, free)
 }

@@ -5,11 +5,12 @@ use mathlib.Core.List.{List, [], ◌∷◌, ◌++◌, append-nil}
 use native.Mathlib.Omega.{arith}
 use native.Mathlib.Numerals.{one-add, add-one}
 use native.Mathlib.Nat.{zero-add, add-zero, add-suc}
-use lib.ListN.{get_or, take}
-use Rattle.std.proofs.lemmas.List.{get_or-take}
+use lib.ListN.{length, get_or, take}
+use lib.Seq.{length-take-le}
 use borrow.Author.Tests.{le-leb}
 use Rattle.definitions.specs.Columns.{at, last_or, slots_from, keep}
 use Rattle.definitions.specs.Arena.{allocated, link_slots}
+use Rattle.definitions.proofs.Parts.{at_take}
 use Rattle.definitions.proofs.Slots.{slots_snoc, keep_append, allocated_yes, allocated_free}
 use Rattle.definitions.proofs.Count.{keep_agree, in_slots}
 use Rattle.definitions.proofs.Relisted.{highest_within}
@@ -49,18 +50,28 @@ links_stay gs m (suc d) f = rw add-suc (links_same gs (m + d) (f (m + d) (omega 
 
 -- the highest link of a stack of n slots: that at the last of the first n places that is not 0, none where all are 0
 module _ (gs : List ℕ) (n : ℕ) where
-  pub highest_found :
-      (i : ℕ) → i < n → (get_or (take n gs) i 0 ≡ 0 → ⊥) → ((k : ℕ) → i < k → k < n → get_or (take n gs) k 0 ≡ 0) → i + 1 ≡ last_or 0 (link_slots gs n)
+  pub highest_found : (i : ℕ) → i < n → (get_or gs i 0 ≡ 0 → ⊥) → ((k : ℕ) → i < k → k < n → get_or gs k 0 ≡ 0) → i + 1 ≡ last_or 0 (link_slots gs n)
   unfolding at
   highest_found i h g f =
       let all : suc i + (n - suc i) ≡ n = omega arith in
-      let rest = links_stay gs (suc i) (n - suc i) (λ k l r. let within : k < n = omega arith in sym (get_or-take n gs k 0 within) ∙ f k l within) in
-      let some : get_or gs i 0 ≡ 0 → ⊥ = λ e. g (get_or-take n gs i 0 h ∙ e) in
-      rw add-one (sym (last_of_more 0 (suc i) (link_slots gs i)) ∙ ap (last_or 0) (sym (links_more gs i some) ∙ sym (rw all at rest)))
+      let rest = links_stay gs (suc i) (n - suc i) (λ k l r. f k l (omega arith)) in
+      rw add-one (sym (last_of_more 0 (suc i) (link_slots gs i)) ∙ ap (last_or 0) (sym (links_more gs i g) ∙ sym (rw all at rest)))
 
-  pub highest_none : ((k : ℕ) → k < n → get_or (take n gs) k 0 ≡ 0) → 0 ≡ last_or 0 (link_slots gs n)
+  pub highest_none : ((k : ℕ) → k < n → get_or gs k 0 ≡ 0) → 0 ≡ last_or 0 (link_slots gs n)
   unfolding link_slots slots_from keep last_or
-  highest_none f = let rest = links_stay gs 0 n (λ k l r. let within : k < n = omega arith in sym (get_or-take n gs k 0 within) ∙ f k within) in ap (last_or 0) (sym (rw zero-add at rest))
+  highest_none f = let rest = links_stay gs 0 n (λ k l r. f k (omega arith)) in ap (last_or 0) (sym (rw zero-add at rest))
+
+  -- of the stack's links only the first n generations are read
+  allocated_take : (s : ℕ) → s ≤ n → allocated (take n gs) n s ≡ allocated gs n s
+  unfolding allocated
+  allocated_take s h = rw (at_take n gs s h) refl
+
+  links_take : link_slots (take n gs) n ≡ link_slots gs n
+  unfolding link_slots
+  links_take = keep_agree _ _ (slots_from 1 n) (λ s i. let within = in_slots s 1 n i in allocated_take s (omega arith))
+
+  pub highest_in_stack : (m : ℕ) → n ≤ length gs → m ≡ last_or 0 (link_slots (take n gs) (length (take n gs))) → m ≡ last_or 0 (link_slots gs n)
+  highest_in_stack m h e = let size : length (take n gs) ≡ n = length-take-le n gs h in rw (← links_take) (rw size at e)
 
 -- where a stack ends that has no free end slots
 pub ends_within : (gs : List ℕ) (n m : ℕ) → m ≡ last_or 0 (link_slots gs n) → m ≤ n

@@ -10,7 +10,7 @@ ghost use Rattle.definitions.specs.Edit.{next_generation, overflows, set_generat
 ghost use Rattle.definitions.specs.Remove.{threaded, canonicalize_freelist};
 ghost use Rattle.lent.specs.Arenas.{held_in, SameBuffers};
 ghost use Rattle.ptr.specs.Extra.{invalidation_number};
-ghost use Rattle.base_freelist.specs.Answers.{set_reply};
+ghost use Rattle.refusals.specs.Refusal.{no_words, result_reply};
 ghost use Rattle.base_freelist.specs.Popped.{popped, all_popped};
 
 use header::{CURRENT_GENERATION, ROOT, STACK_LENGTH};
@@ -22,7 +22,7 @@ use refusals::Refusal;
 #[tactic(auto, unfolding(definitions::specs::Edit::set_generation))]
 pub fn set_generation(header: &mut [u32], g: Gen) -> Result<(), Refusal>
     requires { length header.old ≡ header_words }
-    ensures { (ps ns gs vs : List ℕ) → set_reply result (arena ps ns gs vs header.new) ≡ set_generation (arena ps ns gs vs header.old) g.0 [] }
+    ensures { (ps ns gs vs : List ℕ) → result_reply no_words 0 result (arena ps ns gs vs header.new) [] ≡ set_generation (arena ps ns gs vs header.old) g.0 [] }
 {
     if g.0 < 2 {
         return Err(Refusal::GenerationTooLow);
@@ -52,12 +52,11 @@ pub fn inc_generation(header: &mut [u32]) -> InvalidationOption
     InvalidationOption::of(raise_generation(header))
 }
 
-// The highest link of a stack of n slots, 0 where it has none: there the stack ends once its free end slots are popped.
-pub fn highest_link(generation: &[u32], n: usize) -> usize
-    requires { n ≤ length generation.now }
-    ensures { result ≡ last_or 0 (link_slots generation.now n) }
+// The highest link of a stack with these generations, 0 where it has none: there the stack ends once its free end slots are popped.
+pub fn highest_link(generation: &[u32]) -> usize
+    ensures { result ≡ last_or 0 (link_slots generation.now (length generation.now)) }
 {
-    match generation[..n].iter().rposition(|g| *g != 0) {
+    match generation.iter().rposition(|g| *g != 0) {
         Some(i) => i + 1,
         None => 0,
     }
@@ -100,7 +99,7 @@ pub fn relist(next: &mut [u32], generation: &[u32], m: usize) -> Slot
 }
 
 // Pops the free end slots and lists the other free slots anew, on an arena that passed the check.
-#[tactic(auto, using(definitions::proofs::Shaped::shaped, crate::proofs::Rising::ends_within))]
+#[tactic(auto, using(definitions::proofs::Shaped::shaped, crate::proofs::Rising::highest_in_stack, crate::proofs::Rising::ends_within))]
 pub fn canonicalize_freelist(arena: &mut ArenaMut<'_>)
     requires { verdict capacity_limit (held_in arena.old) ≡ 0 }
     ensures canonicalized { reply 0 [] (held_in arena.new) [] ≡ canonicalize_freelist (held_in arena.old) [] }
@@ -108,7 +107,7 @@ pub fn canonicalize_freelist(arena: &mut ArenaMut<'_>)
 {
     let n = arena.header[STACK_LENGTH] as usize;
     let generation = &mut *arena.generation;
-    let m = highest_link(&*generation, n);
+    let m = highest_link(&generation[..n]);
     let root = relist(arena.next, &*generation, m);
     arena.header[ROOT] = root.0;
     arena.header[STACK_LENGTH] = m as u32;

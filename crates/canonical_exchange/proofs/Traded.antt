@@ -8,7 +8,7 @@ use borrow.Author.Tests.{eq-eqb, ne_eqb}
 use Rattle.definitions.specs.Columns.{at, put}
 use Rattle.definitions.specs.Compress.{exchange_words}
 use Rattle.definitions.proofs.Columns.{at_place, put_place}
-use Rattle.canonical_exchange.specs.Exchange.{Inside, held_only, renamed_words}
+use Rattle.canonical_exchange.specs.Exchange.{Inside, held_only}
 
 -- the words at the code's places i - 1 and t - 1 are those of slots i and t, and exchanged they are the definition's exchange
 pub traded : {xs : List ℕ} {i t : ℕ} → Inside xs i t → set (set xs (i - 1) (get_or xs (t - 1) 0)) (t - 1) (get_or xs (i - 1) 0) ≡ exchange_words i t xs
@@ -26,9 +26,3 @@ held_none {who} name e = rw (eq-eqb who 0 e) refl
 pub held_some : {who : ℕ} (name : ℕ) → (who ≡ 0 → ⊥) → held_only who name ≡ name
 unfolding held_only
 held_some {who} name d = rw (ne_eqb who 0 d) refl
-
--- the two names that were read are the neighbours' slots
-pub renamed_where_read : (xs left back ws : List ℕ) (i t named0 named1 : ℕ) → left ≡ exchange_words i t (put (put xs named0 i) named1 t) → named0 ≡ at back t → named1 ≡ held_only (at ws i) (at back i) →
-    left ≡ renamed_words xs back ws i t
-unfolding renamed_words
-renamed_where_read xs left back ws i t named0 named1 e p q = rw (← p, ← q) e

@@ -27,6 +27,7 @@ pub struct Named {
 }
 
 // Exchanges the words of slots i and t of a column.
+#[tactic(auto, using(crate::proofs::Traded::traded))]
 pub fn trade_words(column: &mut [u32], i: Slot, t: Slot)
     requires { Inside column.old i.0 t.0 }
     ensures { column.new ≡ exchange_words i.0 t.0 column.old }
@@ -37,6 +38,7 @@ pub fn trade_words(column: &mut [u32], i: Slot, t: Slot)
 }
 
 // What the link in slot t names in a column of neighbours, and what who is in slot i names, none if nobody is there.
+#[tactic(auto, using(crate::proofs::Traded::held_none, crate::proofs::Traded::held_some))]
 pub fn read_named(column: &[u32], where_from: &[u32], i: Slot, t: Slot) -> Named
     requires { Inside column.now i.0 t.0 × Inside where_from.now i.0 t.0 }
     ensures { NamedIn column.now where_from.now i.0 t.0 result }
@@ -60,30 +62,33 @@ pub fn settle(column: &mut [u32], named: Named, i: Slot, t: Slot)
     trade_words(column, i, t);
 }
 
+// In both columns of neighbours: the link in slot t and who is in slot i are renamed where their neighbours name them, and exchanged. What both name is read before
+// a word is written, since the two may be neighbours of each other.
+#[tactic(auto, unfolding(crate::specs::Exchange::renamed_words))]
+pub fn exchange_links(prev: &mut [u32], next: &mut [u32], where_from: &[u32], i: Slot, t: Slot)
+    requires { LinksInReach prev.old next.old where_from.now i.0 t.0 }
+    ensures { (prev.new ≡ renamed_words prev.old next.old where_from.now i.0 t.0)
+        × (next.new ≡ renamed_words next.old prev.old where_from.now i.0 t.0) }
+{
+    let after = read_named(&*next, where_from, i, t);
+    let before = read_named(&*prev, where_from, i, t);
+    settle(prev, after, i, t);
+    settle(next, before, i, t);
+}
+
 impl Layout<'_> {
-    // What the link in slot t and who is in slot i name, in the prev column and in the next column.
-    fn named(&self, i: Slot, t: Slot) -> (Named, Named)
-        requires { Inside self.now.prev.now i.0 t.0 × Inside self.now.next.now i.0 t.0 × Inside self.now.where_from.now i.0 t.0 }
-        ensures { NamedIn self.now.prev.now self.now.where_from.now i.0 t.0 result.0
-            × NamedIn self.now.next.now self.now.where_from.now i.0 t.0 result.1 }
+    // The where-from column as it now is, to be read.
+    pub fn occupants(&self) -> &[u32]
+        ensures { result.now ≡ self.now.where_from.now }
     {
-        let before = read_named(&*self.prev, &*self.where_from, i, t);
-        let after = read_named(&*self.next, &*self.where_from, i, t);
-        (before, after)
+        &*self.where_from
     }
 
-    // In both columns of neighbours: the link in slot t and who is in slot i are renamed where their neighbours name them, and exchanged. What both name is read
-    // before a word is written, since the two may be neighbours of each other.
-    pub fn exchange_links(&mut self, i: Slot, t: Slot)
-        requires { LinksInReach self.old.prev.now self.old.next.now self.old.where_from.now i.0 t.0 }
-        ensures renamed { (self.new.prev.now ≡ renamed_words self.old.prev.now self.old.next.now self.old.where_from.now i.0 t.0)
-            × (self.new.next.now ≡ renamed_words self.old.next.now self.old.prev.now self.old.where_from.now i.0 t.0) }
-        ensures others { (self.new.payload.now ≡ self.old.payload.now) × (self.new.where_from.now ≡ self.old.where_from.now) }
-        ensures lent { SameColumns self.old self.new }
+    // The prev column as it now is, to be read.
+    pub fn prev_column(&self) -> &[u32]
+        ensures { result.now ≡ self.now.prev.now }
     {
-        let (before, after) = self.named(i, t);
-        settle(&mut *self.prev, after, i, t);
-        settle(&mut *self.next, before, i, t);
+        &*self.prev
     }
 
     // Exchanges the link in slot t with what is in slot i.
@@ -92,8 +97,9 @@ impl Layout<'_> {
         ensures exchanged { Exchanged (columns_of self.old) (columns_of self.new) i.0 t.0 }
         ensures lent { SameColumns self.old self.new }
     {
-        self.exchange_links(i, t);
-        trade_words(&mut *self.where_from, i, t);
+        let where_from = &mut *self.where_from;
+        exchange_links(self.prev, self.next, &*where_from, i, t);
+        trade_words(where_from, i, t);
         trade_words(&mut *self.payload, i, t);
     }
 }

@@ -57,10 +57,6 @@ pub record LayingOut (old c : Lent) (laid passed : ℕ) : Type 0 where
 occupied : (b : Arena) (from : List ℕ) (c : Lent) → Exchangeable b from → Held b from c → Occupied b c.where_from
 occupied b from c sound held = record { long = held.from_long; somebody = λ s h z. sound.somebody s h (sym (held.who s h) ∙ z); nobody = held.nobody }
 
-between_occupied : (a : Arena) → Layable a → (l : Laying) (c : Lent) → Between a l → Held l.slots l.from c → Occupied l.slots c.where_from
-between_occupied a ok l c between held =
-    occupied l.slots l.from c (exchangeable a ok.linked ok.room l.slots l.from between.state.carried) held
-
 pub laying_starts : (c : Lent) → LayingOut c c 0 0
 unfolding laid_out
 laying_starts c =

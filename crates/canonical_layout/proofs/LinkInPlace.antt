@@ -9,6 +9,7 @@ use native.Mathlib.Decide.{ℕ_discrete}
 use lib.Dec.{eqb}
 use lib.ListN.{length, get_or, set, take, take-append-drop}
 use borrow.Author.Tests.{eqb-true, not-false}
+use Rattle.std.proofs.lemmas.List.{set-get_or}
 use Rattle.definitions.specs.Columns.{at, put}
 use Rattle.definitions.specs.Arena.{Arena, capacity_limit, stack_length}
 use Rattle.definitions.specs.Compress.{Laying, exchanged, exchange_words, exchange_links, exchange_slots, put_at_i}
@@ -25,15 +26,10 @@ use Rattle.canonical_layout.proofs.InPlace.{Exchangeable, in_reach, exchange_hol
 
 -- ---- a slot exchanged with itself
 
-set_itself : (xs : List ℕ) (k : ℕ) → set xs k (get_or xs k 0) ≡ xs
-set_itself [] k = refl
-set_itself (x ∷ xs) zero = refl
-set_itself (x ∷ xs) (suc k) = ap (λ (l : List ℕ). x ∷ l) (set_itself xs k)
-
 put_itself : (xs : List ℕ) (s : ℕ) → put xs s (at xs s) ≡ xs
 unfolding put at
 put_itself xs zero = refl
-put_itself xs (suc k) = set_itself xs k
+put_itself xs (suc k) = set-get_or xs k 0
 
 words_itself : (i : ℕ) (xs : List ℕ) → exchange_words i i xs ≡ xs
 unfolding exchange_words

@@ -1,14 +1,15 @@
 -- The search for the lowest link and the walk back to its chain's start, step by step against the definition. Assumes nothing.
-use Prim.Native.Nat.{ℕ, suc, ◌+◌, ◌-◌, ◌≤◌, ◌<◌}
-use mathlib.Core.Path.{◌≡◌, sym, ap, ◌∙◌}
+use Prim.Native.Nat.{ℕ, zero, suc, ◌+◌, ◌-◌, ◌≤◌, ◌<◌}
+use mathlib.Core.Path.{◌≡◌, refl, sym, ap, ◌∙◌}
 use mathlib.Core.Logic.{◌≢◌}
 use mathlib.Core.Bool.{Bool, true, false}
 use mathlib.Core.List.{List}
 use native.Mathlib.Omega.{arith}
-use native.Mathlib.Nat.{sub-zero}
+use native.Mathlib.Nat.{add-zero, add-suc, sub-zero}
 use native.Mathlib.Numerals.{add-one}
 use lib.Dec.{eqb}
-use lib.ListN.{length, get_or}
+use lib.ListN.{length, get_or, drop, length-drop}
+use lib.Seq.{get_or-drop}
 use borrow.Author.Tests.{eqb-true, eqb-false}
 use Rattle.definitions.specs.Columns.{at}
 use Rattle.definitions.specs.Arena.{Arena, stack_length, is_link}
@@ -35,21 +36,41 @@ module _ {ws : List ℕ} {from s : ℕ} (searching : Searching ws from s) where
   is_free : (b : Arena) → Occupied b ws → get_or ws s 0 ≡ 0 → is_link b (suc s) ≡ false
   is_free b o z = by_test (is_link b (suc s)) (λ e. absurd (o.somebody (suc s) e (at_suc ws s ∙ z))) (λ e. e)
 
-  pub search_goes_on : s < length ws → get_or ws s 0 ≡ 0 → Searching ws from (s + 1)
+  search_goes_on : s < length ws → get_or ws s 0 ≡ 0 → Searching ws from (suc s)
   search_goes_on h z =
       record {
         begun = omega (arith, searching.begun);
-        within = omega arith;
+        within = h;
         same = λ b o.
             let next : lowest_from b (suc s) ≡ lowest_from b (suc (suc s)) = lowest_passes b (suc s) (is_free b o z) in
-            rw (add-one (s + 1), add-one s) (sym next ∙ rw (add-one s) at (searching.same b o));
+            rw (add-one (suc s)) (sym next ∙ rw (add-one s) at (searching.same b o));
       }
 
-  pub search_finds : get_or ws s 0 ≢ 0 → (b : Arena) → Occupied b ws → s + 1 ≡ lowest_from b (from + 1)
+  search_finds : get_or ws s 0 ≢ 0 → (b : Arena) → Occupied b ws → s + 1 ≡ lowest_from b (from + 1)
   search_finds d b o = rw (add-one s) (sym (lowest_stops b (suc s) (link_within b (suc s) (is_link_lem b o d)) (is_link_lem b o d))) ∙ searching.same b o
 
-  pub search_ends : length ws ≤ s → (b : Arena) → Occupied b ws → 0 ≡ lowest_from b (from + 1)
+  search_ends : length ws ≤ s → (b : Arena) → Occupied b ws → 0 ≡ lowest_from b (from + 1)
   search_ends h b o = sym (lowest_ends b (s + 1) (omega (arith, o.long))) ∙ searching.same b o
+
+module _ (ws : List ℕ) (from : ℕ) (h : from ≤ length ws) where
+  -- nobody is in the first k slots after the first from
+  searched : (k : ℕ) → from + k ≤ length ws → ((j : ℕ) → j < k → get_or (drop from ws) j 0 ≡ 0) → Searching ws from (from + k)
+  searched zero l none = rw add-zero (record { begun = omega arith; within = h; same = λ b o. refl })
+  searched (suc k) l none =
+      let before = searched k (omega arith) (λ j i. none j (omega arith)) in
+      rw add-suc (search_goes_on before (omega arith) (sym (get_or-drop from ws k 0) ∙ none k (omega arith)))
+
+  pub lowest_found :
+      {i : ℕ} → (i < length (drop from ws)) × (get_or (drop from ws) i 0 ≢ 0) × ((k : ℕ) → k < i → get_or (drop from ws) k 0 ≡ 0)
+      → (b : Arena) → Occupied b ws → from + i + 1 ≡ lowest_from b (from + 1)
+  lowest_found {i} (l, some, none) =
+      let within : i < length ws - from = rw (length-drop from ws) at l in
+      search_finds (searched i (omega arith) none) (λ z. some (get_or-drop from ws i 0 ∙ z))
+
+  pub lowest_none : ((k : ℕ) → k < length (drop from ws) → get_or (drop from ws) k 0 ≡ 0) → (b : Arena) → Occupied b ws → 0 ≡ lowest_from b (from + 1)
+  lowest_none none =
+      let all : length ws - from ≡ length (drop from ws) = sym (length-drop from ws) in
+      search_ends (searched (length ws - from) (omega arith) (λ j l. none j (rw all at l))) (omega arith)
 
 -- ---- the chain's start
 

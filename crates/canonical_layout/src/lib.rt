@@ -1,7 +1,7 @@
 // The layout of canonical compression: chain after chain, each link brought to the slot after those that are laid out.
 #![tactic(auto)]
 
-ghost use Rattle.std.specs.Prelude.{◌≡◌, ℕ, ◌+◌, ◌≤◌, ◌<◌, length, IfSome};
+ghost use Rattle.std.specs.Prelude.{◌≡◌, ◌≢◌, ℕ, ◌+◌, ◌≤◌, ◌<◌, length, get_or, IfSome, IfNone};
 ghost use Rattle.definitions.specs.Arena.{Arena, capacity_limit, stack_length};
 ghost use Rattle.definitions.specs.Compress.{Laying, lowest_from, start_of, lay_chain, laid_out};
 ghost use Rattle.canonical_exchange.specs.Lent.{lent};
@@ -47,27 +47,32 @@ pub fn lay_chain(layout: &mut Layout<'_>, laid: usize, start: Slot) -> usize
     }
 }
 
+// The place of the first word that is not 0.
+fn first_word(words: &[u32]) -> Option<usize>
+    ensures some { IfSome result (λ i. (i < length words.now) × (get_or words.now i 0 ≢ 0) × ((k : ℕ) → k < i → get_or words.now k 0 ≡ 0)) }
+    ensures none { IfNone result ((k : ℕ) → k < length words.now → get_or words.now k 0 ≡ 0) }
+{
+    words.iter().position(|word| *word != 0)
+}
+
 // The lowest slot after the first `from` in which somebody is. Somebody is where the where-from column has a word.
-pub fn lowest_link(layout: &Layout<'_>, from: usize) -> Option<Slot>
-    requires { (from ≤ length layout.now.where_from.now) × (length layout.now.where_from.now ≤ capacity_limit) }
-    ensures lowest { (a : Arena) → Occupied a layout.now.where_from.now → slot_or_0 result ≡ lowest_from a (from + 1) }
+pub fn lowest_link(where_from: &[u32], from: usize) -> Option<Slot>
+    requires { (from ≤ length where_from.now) × (length where_from.now ≤ capacity_limit) }
+    ensures lowest { (a : Arena) → Occupied a where_from.now → slot_or_0 result ≡ lowest_from a (from + 1) }
     ensures some { IfSome result (λ s. 0 < s.0) }
 {
-    let where_from = &*layout.where_from;
-    for s in from..where_from.len() {
-        if where_from[s] != 0 {
-            return Some(Slot((s + 1) as u32));
-        }
+    match first_word(&where_from[from..]) {
+        Some(i) => Some(Slot((from + i + 1) as u32)),
+        None => None,
     }
-    None
 }
 
 // The start of the chain of the link in slot o: back along prev until there is none. Slot o itself if the chain is closed.
-pub fn start_of(layout: &Layout<'_>, o: Slot) -> Slot
-    requires { (b : Arena) × Rooted b layout.now.prev.now o.0 }
-    ensures { (b : Arena) → Rooted b layout.now.prev.now o.0 → result.0 ≡ start_of b (stack_length b) o.0 o.0 }
+#[tactic(auto, using(crate::proofs::Search::back_starts, crate::proofs::Search::back_within, crate::proofs::Search::back_stops, crate::proofs::Search::back_round, crate::proofs::Search::back_goes_on, crate::proofs::Search::back_ends))]
+pub fn start_of(prev: &[u32], o: Slot) -> Slot
+    requires { (b : Arena) × Rooted b prev.now o.0 }
+    ensures { (b : Arena) → Rooted b prev.now o.0 → result.0 ≡ start_of b (stack_length b) o.0 o.0 }
 {
-    let prev = &*layout.prev;
     let mut s = o;
     for _step in 0..prev.len() {
         let before = slot_at(prev, s);
@@ -90,8 +95,8 @@ fn lay_all(layout: &mut Layout<'_>)
 {
     let mut laid: usize = 0;
     let mut passed: usize = 0;
-    while let Some(found) = lowest_link(&*layout, passed) {
-        let start = start_of(&*layout, found);
+    while let Some(found) = lowest_link(layout.occupants(), passed) {
+        let start = start_of(layout.prev_column(), found);
         laid = lay_chain(layout, laid, start);
         // no link waits below the slot that was found, so that the search goes on there and all searches together are linear
         passed = laid.max(found.0 as usize - 1);

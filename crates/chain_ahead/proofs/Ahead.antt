@@ -1,25 +1,28 @@
 -- The slots that the rest of a walk answers, step by step. Assumes nothing.
-use Prim.Native.Nat.{ℕ, zero, suc, ◌+◌, ◌≤◌, ◌<◌}
+use Prim.Native.Nat.{ℕ, zero, suc, ◌+◌, ◌≤◌}
 use mathlib.Core.Path.{◌≡◌, refl, sym, ap, ◌∙◌}
 use mathlib.Core.Logic.{◌⊎◌, inl, inr}
-use mathlib.Core.Bool.{true, false}
+use mathlib.Core.Bool.{true}
 use mathlib.Core.List.{[], ◌∷◌}
 use native.Mathlib.Omega.{arith}
 use lib.ListN.{length}
 use lib.Dec.{eqb, ltb}
 use borrow.Author.Tests.{eq-eqb, ne_eqb, le-ltb}
-use Rattle.std.specs.Prelude.{◌≢◌, Option, Some, None, is_some, IfSome}
-use Rattle.definitions.specs.Arena.{Arena}
+use Rattle.std.specs.Prelude.{◌≢◌, Option, Some, None, is_some, IfSome, MatchOption}
+use Rattle.definitions.specs.Arena.{Arena, is_link, capacity_limit}
+use Rattle.definitions.specs.Check.{verdict}
+use Rattle.definitions.specs.Read.{Pointer}
 use Rattle.definitions.specs.Walk.{Walk, Stepped, step, walked}
 use Rattle.definitions.proofs.Tests.{by_test}
-use Rattle.definitions.specs.Check.{verdict}
 use Rattle.well_formed.proofs.WellFormed.{well_formed_if_passes}
-use Rattle.walks.proofs.AnyState.{Answered, Ended, answered_or_ended, ended_stays, onward_left}
+use Rattle.walks.proofs.AnyState.{Answered, Ended, answered_or_ended, ended_stays, onward_left, step_answers_links}
 use Rattle.ptr.specs.declared.Ptr.{Ptr}
 use Rattle.chain_iterators.specs.declared.ChainPtrAdvancer.{ChainPtrAdvancer}
 use Rattle.chain_iterators.specs.Walk.{walk_of, stepped_of, OnChain}
 use Rattle.chain_iterators.proofs.Chain.{step_on_chain}
 use Rattle.chain_ahead.specs.Ahead.{slots_ahead}
+use Rattle.chain_ahead.specs.Rest.{rest_of}
+use Rattle.chain_ahead.specs.declared.ChainWalk.{ChainWalk}
 
 -- no walk answers more slots than it makes steps
 walked_short : (a : Arena) (m : ℕ) (w : Walk) → length (walked a m w) ≤ m
@@ -31,7 +34,7 @@ walked_short a (suc m) w =
     (λ e. rw e (omega (arith, walked_short a m (step a w).state)))
 
 module _ (a : Arena) (w : Walk) where
-  pub ahead_short : length (slots_ahead a w) ≤ w.left
+  ahead_short : length (slots_ahead a w) ≤ w.left
   ahead_short = walked_short a w.left w
 
   -- a step that answers a slot lowers the advances left
@@ -53,46 +56,39 @@ module _ (a : Arena) (w : Walk) where
 
   -- the step r was made, and answered none
   module _ (r : Stepped) (e : r ≡ step a w) where
-    pub ahead_none : r.answer.slot ≡ 0 → slots_ahead a w ≡ []
+    ahead_none : r.answer.slot ≡ 0 → slots_ahead a w ≡ []
     ahead_none z = none_ahead w.left (rw e at z)
 
     -- or it answered a slot
-    module _ (d : r.answer.slot ≡ 0 → ⊥) where
-      pub ahead_less : r.state.left < w.left
-      ahead_less = rw e (omega (arith, step_lowers (rw e at d)))
+    ahead_some : (r.answer.slot ≡ 0 → ⊥) → slots_ahead a w ≡ r.answer.slot ∷ slots_ahead a r.state
+    ahead_some d = let f = rw e at d in ap (λ (m : ℕ). walked a m w) (step_lowers f) ∙ rw e (one_ahead (step a w).state.left f)
 
-      pub ahead_some : slots_ahead a w ≡ r.answer.slot ∷ slots_ahead a r.state
-      ahead_some = let f = rw e at d in ap (λ (m : ℕ). walked a m w) (step_lowers f) ∙ rw e (one_ahead (step a w).state.left f)
+  -- the code's step
+  module _ (v : ChainPtrAdvancer) where
+    pub advanced_on_chain : verdict capacity_limit a ≡ 0 → (o : Option Ptr) → stepped_of o v ≡ step a w → OnChain a w.position → OnChain a v.ptr.0
+    advanced_on_chain ok None e on = step_on_chain (well_formed_if_passes capacity_limit a ok) w e on
+    advanced_on_chain ok (Some p) e on = step_on_chain (well_formed_if_passes capacity_limit a ok) w e on
 
--- a walk that was at w₀ is at w, after so many links, and on a chain
-pub record Counting (a : Arena) (w₀ w : Walk) (links : ℕ) : Type 0 where
-  pub all : links + length (slots_ahead a w) ≡ length (slots_ahead a w₀)
-  pub on_chain : OnChain a w.position
+    pub advanced : (o : Option Ptr) → stepped_of o v ≡ step a w → IfSome o (λ (p : Ptr). p.inx.0 ≢ 0) → MatchOption o (slots_ahead a w ≡ []) (λ (p : Ptr). slots_ahead a w ≡ p.inx.0 ∷ slots_ahead a (walk_of v))
+    advanced None e some = ahead_none (stepped_of None v) e refl
+    advanced (Some p) e some = ahead_some (stepped_of (Some p) v) e some
 
-pub counting_starts : (a : Arena) (w₀ : Walk) → OnChain a w₀.position → Counting a w₀ w₀ 0
-counting_starts a w₀ on = record { all = omega arith; on_chain = on }
+    pub answers_link : (o : Option Ptr) → stepped_of o v ≡ step a w → IfSome o (λ (p : Ptr). p.inx.0 ≢ 0) → IfSome o (λ (p : Ptr). is_link a p.inx.0 ≡ true)
+    answers_link None e some = tt
+    answers_link (Some p) e some =
+        elim (step_answers_links a w) [
+          | inl none ↦ absurd (some (ap (λ (s : Stepped). s.answer.slot) e ∙ ap (λ (q : Pointer). q.slot) none))
+          | inr link ↦ rw (← e) at link.0
+        ]
 
--- the code's step answered none
-pub counting_ends : {a : Arena} {w₀ w : Walk} {links : ℕ} → Counting a w₀ w links → (o : Option Ptr) (v : ChainPtrAdvancer) → stepped_of o v ≡ step a w → false ≡ is_some o → links ≡ length (slots_ahead a w₀)
-counting_ends {a} {w₀} {w} c None v e n = let all = c.all in omega (arith, ap length (ahead_none a w (stepped_of None v) e refl))
-counting_ends c (Some p) v e n = cc
+-- the rest answers no more links than it has advances left
+pub rest_short : (u : ChainWalk) → length (rest_of u) ≤ u.walk.max_advances
+rest_short u = ahead_short _ _
 
--- or it answered a link: one more is counted, there are no more links than advances, and one advance less is left
-pub record Counted (a : Arena) (w₀ w : Walk) (v : ChainPtrAdvancer) (links : ℕ) : Type 0 where
-  pub counting : Counting a w₀ (walk_of v) (links + 1)
-  pub small : links + 1 ≤ w₀.left
-  pub less : v.max_advances < w.left
-
-pub counting_goes_on : (limit : ℕ) {a : Arena} {w₀ w : Walk} {links : ℕ} → verdict limit a ≡ 0 → Counting a w₀ w links → (o : Option Ptr) (v : ChainPtrAdvancer) → stepped_of o v ≡ step a w → IfSome o (λ (p : Ptr). p.inx.0 ≢ 0) → true ≡ is_some o → Counted a w₀ w v links
-counting_goes_on limit ok c None v e some y = cc
-counting_goes_on limit {a} {w₀} {w} ok c (Some p) v e some y =
-    let all = c.all in
-    let one = ap length (ahead_some a w (stepped_of (Some p) v) e some) in
-    record {
-      counting = record { all = omega arith; on_chain = step_on_chain (well_formed_if_passes limit a ok) w e c.on_chain };
-      small = omega (arith, ahead_short a w₀);
-      less = ahead_less a w (stepped_of (Some p) v) e some;
-    }
+-- a step that answers a link leaves one less
+pub one_less : (u v : ChainWalk) (o : Option Ptr) → MatchOption o (rest_of u ≡ []) (λ (p : Ptr). rest_of u ≡ p.inx.0 ∷ rest_of v) → true ≡ is_some o → length (rest_of u) ≡ length (rest_of v) + 1
+one_less u v None none y = cc
+one_less u v (Some p) some y = omega (arith, ap length some)
 
 -- where the advances left have room, so do the links
 pub ahead_fits : (a : Arena) (w : Walk) (room : ℕ) → w.left ≤ room → ltb room w.left ≡ ltb room (length (slots_ahead a w))

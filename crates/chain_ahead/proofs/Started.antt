@@ -1,6 +1,6 @@
 -- A walk that was started at a pointer, or was not since the pointer is stale. Assumes nothing.
 use Prim.Native.Nat.{ℕ}
-use mathlib.Core.Path.{◌≡◌, ap}
+use mathlib.Core.Path.{◌≡◌, ap, ◌∙◌}
 use mathlib.Core.Logic.{inr}
 use mathlib.Core.Bool.{true, false}
 use mathlib.Core.List.{List, []}
@@ -15,14 +15,19 @@ use Rattle.definitions.proofs.Pointers.{fresh_link}
 use Rattle.definitions.proofs.Tests.{by_test}
 use Rattle.definitions.proofs.Slots.{allocated_some}
 use Rattle.refusals.specs.declared.Refusal.{Refusal}
-use Rattle.refusals.specs.Refusal.{refused}
-use Rattle.chain_iterators.specs.Walk.{walk_of, OnChain, start_reply}
+use Rattle.refusals.specs.Refusal.{refused, result_reply}
+use Rattle.lent.specs.Arenas.{checked_of}
+use Rattle.chain_iterators.specs.Walk.{walk_of, OnChain, walk_words}
 use Rattle.chain_iterators.specs.declared.ChainPtrAdvancer.{ChainPtrAdvancer}
 use Rattle.chain_ahead.specs.Ahead.{slots_ahead}
+use Rattle.chain_ahead.specs.Rest.{rest_of, rest_words}
+use Rattle.chain_ahead.specs.declared.ChainWalk.{ChainWalk}
 
-pub record StartedAt (a : Arena) (p : Pointer) (w : ChainPtrAdvancer) : Type 0 where
+-- the walk k was started at p, in the arena a
+pub record StartedAt (a : Arena) (p : Pointer) (k : ChainWalk) : Type 0 where
   pub fresh : stale a p ≡ false
-  pub state : walk_of w ≡ start_at a p.slot
+  pub arena : checked_of k.arena ≡ a
+  pub whole : rest_of k ≡ walk_from a p.slot
 
 -- the refusal r is that of a stale pointer, also where it is handed on with other fields
 pub record NotStarted (a : Arena) (p : Pointer) (r : Refusal) : Type 0 where
@@ -30,14 +35,28 @@ pub record NotStarted (a : Arena) (p : Pointer) (r : Refusal) : Type 0 where
   pub refused : (fields : ℕ) (b : Arena) (l : List ℕ) → refused r fields b l ≡ refusal 12 fields b l
 
 module _ (a : Arena) (p : Pointer) where
-  pub started : (w : ChainPtrAdvancer) → start_reply (Ok w) a [] ≡ walk_start a p [] → StartedAt a p w
+  -- where a walk is answered, the pointer is not stale
+  fresh_start : (w : ChainPtrAdvancer) → result_reply walk_words 4 (Ok w) a [] ≡ walk_start a p [] → (stale a p ≡ false) × (walk_of w ≡ start_at a p.slot)
   unfolding walk_start
-  started w e =
+  fresh_start w e =
       by_test (stale a p)
       (λ s. let z : ◌≡◌ {A = ℕ} 0 12 = ap (λ (r : Reply). r.number) (rw s at e) in absurd (omega arith))
-      (λ s. record { fresh = s; state = ap (λ (r : Reply). state_of r.fields) (rw s at e) })
+      (λ s. (s, ap (λ (r : Reply). state_of r.fields) (rw s at e)))
 
-  pub not_started : (r : Refusal) → start_reply (Err r) a [] ≡ walk_start a p [] → NotStarted a p r
+  -- it is at a link
+  pub started_on_chain : (w : ChainPtrAdvancer) → result_reply walk_words 4 (Ok w) a [] ≡ walk_start a p [] → OnChain a w.ptr.0
+  started_on_chain w e =
+      let start = fresh_start w e in
+      let there : w.ptr.0 ≡ p.slot = ap (λ (v : Walk). v.position) start.1 in
+      rw there (inr (fresh_link a p start.0))
+
+  -- and its rest is the whole walk
+  pub started : (k : ChainWalk) → result_reply rest_words 4 (Ok k) a [] ≡ walk_start a p [] → checked_of k.arena ≡ a → StartedAt a p k
+  started k e there =
+      let start = fresh_start k.walk e in
+      record { fresh = start.0; arena = there; whole = ap (λ (b : Arena). slots_ahead b (walk_of k.walk)) there ∙ ap (slots_ahead a) start.1 }
+
+  pub not_started : (r : Refusal) → result_reply rest_words 4 (Err r) a [] ≡ walk_start a p [] → NotStarted a p r
   unfolding walk_start
   not_started r e =
       by_test (stale a p)
@@ -51,13 +70,3 @@ module _ (a : Arena) (p : Pointer) where
       let z : ◌≡◌ {A = ℕ} 0 p.slot = ap (λ (q : Reply). get_or q.fields 0 0) (rw s at e) in
       let some = allocated_some a.generation (stack_length a) p.slot (fresh_link a p s) in
       absurd (omega arith))
-
--- it is at a link
-pub started_on_chain : {a : Arena} {p : Pointer} {w : ChainPtrAdvancer} → StartedAt a p w → OnChain a w.ptr.0
-started_on_chain {a} {p} {w} start =
-    let there : w.ptr.0 ≡ p.slot = ap (λ (v : Walk). v.position) start.state in
-    rw there (inr (fresh_link a p start.fresh))
-
--- the slots ahead are the whole walk's
-pub whole_walk : {a : Arena} {p : Pointer} {w : ChainPtrAdvancer} → StartedAt a p w → slots_ahead a (walk_of w) ≡ walk_from a p.slot
-whole_walk {a = a} start = ap (slots_ahead a) start.state

@@ -68,10 +68,10 @@ module _ (a : Arena) where
     counts_of_stack = rw (generations, counts_take n a.generation a.next m s, stack, links, first) refl
 
     pub lowest_of_stack : first_or 0 (broken_slots (take n a.prev) (take n a.next) (take n a.generation) (length (take n a.generation))) ≡ lowest_broken capacity_limit a
-    lowest_of_stack = rw (generations, broken_take n a.generation a.prev a.next, stack) refl
+    lowest_of_stack = rw (generations, broken_take n a.generation a.next a.prev, stack) refl
 
     pub side_of_stack : (x : ℕ) → x ≤ n → side_at (take n a.prev) (take n a.next) (take n a.generation) (length (take n a.generation)) x ≡ side_at a.prev a.next a.generation (stack_length a) x
-    side_of_stack x l = rw (generations, side_take n a.generation a.prev a.next x l, stack) refl
+    side_of_stack x l = rw (generations, side_take n a.generation a.next a.prev x l, stack) refl
 
     pub refuses_counts : (r : Refusal) → refusal_number r ≡ counts_of (take n a.next) (take n a.generation) (length (take n a.generation)) m s → Refuses a r
     refuses_counts r q =

@@ -5,7 +5,7 @@ ghost use Rattle.lent.specs.Arenas.{lent_of, arena_of};
 ghost use Rattle.chain_arena.specs.Checks.{Passes, Checks};
 
 use base_arena::{counts, shape};
-use interlinks::{broken_side, interlinks};
+use interlinks::Stack;
 use lent::{ArenaRef, CheckedArena, LentArena};
 use ptr::Slot;
 use refusals::Refusal;
@@ -15,19 +15,21 @@ fn check_stack(arena: ArenaRef<'_>) -> Result<(), Refusal>
     ensures { Passes (arena_of arena.entry) result }
 {
     let n = arena.stack_length();
-    let prev = &arena.prev[..n];
-    let next = &arena.next[..n];
-    let generation = &arena.generation[..n];
+    let stack = Stack {
+        prev: &arena.prev[..n],
+        next: &arena.next[..n],
+        generation: &arena.generation[..n],
+    };
     counts(
-        next,
-        generation,
+        stack.next,
+        stack.generation,
         arena.link_count(),
         arena.root().0 as usize,
     )?;
-    match interlinks(prev, next, generation) {
+    match stack.interlinks::<true>() {
         None => Ok(()),
         Some(slot) => {
-            let side = broken_side(prev, next, generation, slot);
+            let side = stack.broken_side(slot);
             Err(Refusal::BrokenLink(Slot(slot as u32), side))
         }
     }

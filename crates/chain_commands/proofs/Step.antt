@@ -19,9 +19,10 @@ use Rattle.links.specs.Links.{removal_reply}
 use Rattle.links.specs.declared.InvalidationResult.{InvalidationResult}
 use Rattle.links.specs.declared.InvalidationResult.TheVariants.{Success, GenerationOverflow, InvalidPtr}
 use Rattle.ptr.specs.declared.Ptr.{Ptr}
+use Rattle.ptr.specs.Pointers.{pointer_words}
 use Rattle.refusals.specs.declared.Refusal.{Refusal}
-use Rattle.chain_edits.specs.Edits.{break_side, edited_reply}
-use Rattle.chain_insertion.specs.Inserted.{inserted_reply}
+use Rattle.refusals.specs.Refusal.{no_words, result_reply}
+use Rattle.chain_edits.specs.Edits.{break_side}
 use Rattle.chain_commands.specs.Commands.{Applied}
 
 removal_leaves : (r : InvalidationResult) (a : Arena) (l : List ℕ) → (removal_reply r a l).arena ≡ a
@@ -29,13 +30,9 @@ removal_leaves (Success x) a l = refl
 removal_leaves (GenerationOverflow x) a l = refl
 removal_leaves InvalidPtr a l = refl
 
-insertion_leaves : (r : Result Ptr Refusal) (a : Arena) (l : List ℕ) → (inserted_reply r a l).arena ≡ a
-insertion_leaves (Ok p) a l = refl
-insertion_leaves (Err r) a l = refl
-
-edit_leaves : (r : Result (Unit {0}) Refusal) (a : Arena) → (edited_reply r a).arena ≡ a
-edit_leaves (Ok u) a = refl
-edit_leaves (Err r) a = refl
+result_leaves : {A : Type 0} (words : A → List ℕ) (fields : ℕ) (r : Result A Refusal) (a : Arena) (l : List ℕ) → (result_reply words fields r a l).arena ≡ a
+result_leaves words fields (Ok x) a l = refl
+result_leaves words fields (Err r) a l = refl
 
 -- ---- what each command does
 
@@ -59,8 +56,8 @@ module _ (top : ℕ) (a : Arena) (c : Command) where
   replied o e number arena = record { answer = number ∙ ap (λ (x : Reply). x.number) e; arena = arena ∙ ap (λ (x : Reply). x.arena) e }
 
   -- an edit of interlinks answers and leaves what it replies
-  pub edit : (y : Result (Unit {0}) Refusal) {left : Arena} → edited_reply y left ≡ apply top a c → Applied top a c (edited_reply y left).number left
-  edit y {left} e = replied (edited_reply y left) e refl (sym (edit_leaves y left))
+  pub edit : (y : Result (Unit {0}) Refusal) {left : Arena} → result_reply no_words 0 y left [] ≡ apply top a c → Applied top a c (result_reply no_words 0 y left []).number left
+  edit y {left} e = replied (result_reply no_words 0 y left []) e refl (sym (result_leaves no_words 0 y left []))
 
   -- a removal answers and leaves what it replies
   pub removal : c.code ≡ 5 → (x : InvalidationResult) {left : Arena} {r : ℕ} → removal_reply x left [] ≡ remove top a c.first [] → ((b : Arena) (l : List ℕ) → r ≡ (removal_reply x b l).number) → Applied top a c r left
@@ -68,9 +65,9 @@ module _ (top : ℕ) (a : Arena) (c : Command) where
   removal code x {left} e number = replied (removal_reply x left []) (e ∙ rw code refl) (number left []) (sym (removal_leaves x left []))
 
   -- insertions have the codes from 6 on, and are refused with 16 where the code stands for no kind
-  pub insertion : c.code ≢ 0 → 5 ≤ c.code → c.code ≢ 5 → (y : Result Ptr Refusal) {left : Arena} → inserted_reply y left [] ≡ insert_coded a (kind_of c.code c.first c.second) c.payload [] → Applied top a c (inserted_reply y left []).number left
+  pub insertion : c.code ≢ 0 → 5 ≤ c.code → c.code ≢ 5 → (y : Result Ptr Refusal) {left : Arena} → result_reply pointer_words 2 y left [] ≡ insert_coded a (kind_of c.code c.first c.second) c.payload [] → Applied top a c (result_reply pointer_words 2 y left []).number left
   unfolding apply
-  insertion zero high five y {left} e = replied (inserted_reply y left []) (e ∙ sym others) refl (sym (insertion_leaves y left []))
+  insertion zero high five y {left} e = replied (result_reply pointer_words 2 y left []) (e ∙ sym others) refl (sym (result_leaves pointer_words 2 y left []))
     where
       off : (k : ℕ) → k < 6 → eqb c.code k ≡ false
       off k low = ne_eqb c.code k (λ z. omega arith)

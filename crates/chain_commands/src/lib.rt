@@ -1,13 +1,13 @@
 // The commands of a run, and one of them applied to an arena that passed the check (REFERENCE, Run).
 #![tactic(auto)]
 
-ghost use Rattle.std.specs.Prelude.{◌≡◌, ◌+◌, ◌*◌, ◌<◌, ◌≤◌, ℕ, List, length};
+ghost use Rattle.std.specs.Prelude.{◌≡◌, ◌+◌, ◌*◌, ◌<◌, ◌≤◌, ℕ, List, [], length};
 ghost use Rattle.definitions.specs.Arena.{Arena, capacity_limit, largest_generation, arena};
 ghost use Rattle.definitions.specs.Check.{WellFormed};
 ghost use Rattle.definitions.specs.Run.{command_words, command_at, apply};
 ghost use Rattle.lent.specs.Arenas.{held_in, SameBuffers};
 ghost use Rattle.links.specs.Links.{removal_reply};
-ghost use Rattle.chain_edits.specs.Edits.{edited_reply};
+ghost use Rattle.refusals.specs.Refusal.{no_words, result_reply};
 ghost use Rattle.chain_commands.specs.Commands.{command_of, Applied, command_number};
 
 use chain_edits::{break_side, connect, exchange_next};
@@ -56,7 +56,7 @@ fn apply_edit(
 ) -> Result<(), Refusal>
     requires well_formed { WellFormed capacity_limit (arena prev.old next.old generation.old payload.old header.old) }
     requires edit { (0 < c.code) × (c.code < 5) }
-    ensures { (top : ℕ) → edited_reply result (arena prev.new next.new generation.new payload.new header.new)
+    ensures { (top : ℕ) → result_reply no_words 0 result (arena prev.new next.new generation.new payload.new header.new) []
         ≡ apply top (arena prev.old next.old generation.old payload.old header.old) (command_of c) }
 {
     let mut links = LinksMut {

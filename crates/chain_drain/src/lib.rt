@@ -8,10 +8,11 @@ ghost use Rattle.definitions.specs.Check.{WellFormed};
 ghost use Rattle.definitions.specs.Remove.{drain};
 ghost use Rattle.lent.specs.Arenas.{held_in, SameBuffers};
 ghost use Rattle.ptr.specs.Pointers.{pointer_of};
-ghost use Rattle.chain_drain.specs.Drained.{drain_reply};
+ghost use Rattle.refusals.specs.Refusal.{result_reply};
+ghost use Rattle.chain_drain.specs.Drained.{drained_words};
 
+use chain_ahead::ChainWalk;
 use chain_drain_items::{drain_items, list_slots, too_short};
-use chain_iterators::advancer_chain;
 use lent::ArenaMut;
 use ptr::Ptr;
 use refusals::Refusal;
@@ -27,15 +28,14 @@ pub struct Drained {
 pub fn drain(arena: &mut ArenaMut<'_>, p: Ptr, report: &mut [u32]) -> Result<Drained, Refusal>
     requires { WellFormed capacity_limit (held_in arena.old) }
     ensures lent { SameBuffers arena.old arena.new }
-    ensures drained { drain_reply result (held_in arena.new) report.new ≡ drain largest_generation (held_in arena.old) (pointer_of p) report.old }
+    ensures drained { result_reply drained_words 2 result (held_in arena.new) report.new ≡ drain largest_generation (held_in arena.old) (pointer_of p) report.old }
     ensures some { IfOk result (λ d. IfSome d.overflowed (λ i. 0 < i)) }
 {
-    let now = arena.lent().checked();
-    let walk = advancer_chain(now.arena(), p)?;
-    if too_short(now, walk, report.len()) {
+    let walk = ChainWalk::new(arena.lent().checked(), p)?;
+    if too_short(walk, report.len()) {
         return Err(Refusal::SliceLength);
     }
-    let items = list_slots(now, walk, report);
+    let items = list_slots(walk, report);
     let overflowed = drain_items(arena, report, items);
     Ok(Drained { items, overflowed })
 }

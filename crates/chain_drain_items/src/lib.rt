@@ -4,36 +4,32 @@
 ghost use Rattle.std.specs.Prelude.{◌≡◌, ◌+◌, ◌*◌, ◌≤◌, ◌<◌, ltb, length, get_or, IfSome};
 ghost use Rattle.definitions.specs.Arena.{capacity_limit, largest_generation};
 ghost use Rattle.definitions.specs.Report.{item_slots};
-ghost use Rattle.lent.specs.Arenas.{lent_of, checked_of, held_in, SameBuffers};
+ghost use Rattle.lent.specs.Arenas.{lent_of, held_in, SameBuffers};
 ghost use Rattle.base_slots.specs.Removal.{Stands, Removable};
-ghost use Rattle.chain_iterators.specs.Walk.{walk_of, OnChain};
-ghost use Rattle.chain_ahead.specs.Ahead.{slots_ahead};
+ghost use Rattle.chain_ahead.specs.Rest.{rest_of};
 ghost use Rattle.drains.specs.Drainable.{Drainable};
 ghost use Rattle.chain_drain_items.specs.Items.{Listed, item_words, overwritten, ItemDrained, ItemsDrained};
 
 use base_removal::take_out;
-use chain_ahead::too_few;
-use chain_iterators::ChainPtrAdvancer;
+use chain_ahead::ChainWalk;
 use columns::{slot_at, word_at};
-use lent::{ArenaMut, CheckedArena, LentArena};
+use lent::{ArenaMut, LentArena};
 use ptr::Slot;
 
 // Whether `room` words are fewer than five for each link of the rest of a walk.
-pub fn too_short(arena: CheckedArena<'_>, walk: ChainPtrAdvancer, room: usize) -> bool
-    requires { OnChain (checked_of arena) walk.ptr.0 }
-    ensures { result ≡ ltb room (5 * length (slots_ahead (checked_of arena.entry) (walk_of walk))) }
+pub fn too_short(walk: ChainWalk<'_>, room: usize) -> bool
+    ensures { result ≡ ltb room (5 * length (rest_of walk.entry)) }
 {
-    too_few(arena, walk, room / 5)
+    walk.too_few(room / 5)
 }
 
 // Writes the slots of the rest of a walk into the report, each as the first word of its item. Answers how many.
-pub fn list_slots(arena: CheckedArena<'_>, mut walk: ChainPtrAdvancer, report: &mut [u32]) -> u32
-    requires room { 5 * length (slots_ahead (checked_of arena) (walk_of walk)) ≤ length report.old }
-    requires on_chain { OnChain (checked_of arena) walk.ptr.0 }
-    ensures { Listed (slots_ahead (checked_of arena.entry) (walk_of walk)) report.old report.new result }
+pub fn list_slots(mut walk: ChainWalk<'_>, report: &mut [u32]) -> u32
+    requires { 5 * length (rest_of walk) ≤ length report.old }
+    ensures { Listed (rest_of walk.entry) report.old report.new result }
 {
     let mut items: u32 = 0;
-    while let Some(p) = walk.advance_on_chain(arena.arena()) {
+    while let Some(p) = walk.advance() {
         report[5 * items as usize] = p.inx.0;
         items += 1;
     }

@@ -1,6 +1,6 @@
 -- What the steps of the two calls found and wrote is what the definitions say. Assumes nothing.
 use Prim.Native.Nat.{ℕ}
-use mathlib.Core.Path.{◌≡◌, refl}
+use mathlib.Core.Path.{◌≡◌, refl, ap}
 use mathlib.Core.Bool.{true, false}
 use mathlib.Core.List.{List, [], ◌∷◌}
 use lib.ListN.{length}
@@ -14,10 +14,9 @@ use Rattle.refusals.specs.declared.Refusal.{Refusal}
 use Rattle.refusals.specs.declared.Refusal.TheVariants.{SliceLength, OutOfFrame}
 use Rattle.refusals.specs.Refusal.{refused}
 use Rattle.frame_clock.specs.declared.Window.{Window}
-use Rattle.chain_iterators.specs.Walk.{walk_of}
-use Rattle.chain_iterators.specs.declared.ChainPtrAdvancer.{ChainPtrAdvancer}
-use Rattle.chain_ahead.specs.Ahead.{slots_ahead}
-use Rattle.chain_ahead.proofs.Started.{StartedAt, NotStarted, whole_walk}
+use Rattle.chain_ahead.specs.Rest.{rest_of}
+use Rattle.chain_ahead.specs.declared.ChainWalk.{ChainWalk}
+use Rattle.chain_ahead.proofs.Started.{StartedAt, NotStarted}
 use Rattle.chain_due.specs.Due.{due_ahead}
 
 -- no walk is started at a stale pointer
@@ -30,7 +29,7 @@ module _ {a : Arena} {p : Pointer} {r : Refusal} (n : NotStarted a p r) (from to
   unfolding due_events
   events_stale = rw n.stale (n.refused 1 a l)
 
-module _ {a : Arena} {p : Pointer} {k : ChainPtrAdvancer} (start : StartedAt a p k) where
+module _ {a : Arena} {p : Pointer} (k : ChainWalk) (start : StartedAt a p k) where
   -- the ends make no window
   module _ (from to : ℕ) (l : List ℕ) (none : is_window from to ≡ false) where
     pub count_no_window : refused OutOfFrame 1 a l ≡ due_count a p from to l
@@ -44,21 +43,21 @@ module _ {a : Arena} {p : Pointer} {k : ChainPtrAdvancer} (start : StartedAt a p
   -- they make the window w
   module _ (w : Window) (l : List ℕ) where
     -- what is due of the walk that was started
-    due_slots_lem : due_ahead a w (walk_of k) ≡ due_slots a p.slot w.from w.to
+    due_slots_lem : due_ahead w k ≡ due_slots a p.slot w.from w.to
     unfolding due_slots
-    due_slots_lem = rw (whole_walk start) refl
+    due_slots_lem = rw (start.whole, ap (λ (b : Arena). b.payload) start.arena) refl
 
-    pub count_done_lem : {count : ℕ} → count ≡ length (due_ahead a w (walk_of k)) → reply 0 (count ∷ []) a l ≡ due_count a p w.from w.to l
+    pub count_done_lem : {count : ℕ} → count ≡ length (due_ahead w k) → reply 0 (count ∷ []) a l ≡ due_count a p w.from w.to l
     unfolding due_count
     count_done_lem e = rw (start.fresh, w.in_frame, e, due_slots_lem) refl
 
     -- the report has fewer words than the walk has links
-    pub events_short : ltb (length l) (length (slots_ahead a (walk_of k))) ≡ true → refused SliceLength 1 a l ≡ due_events a p w.from w.to l
+    pub events_short : ltb (length l) (length (rest_of k)) ≡ true → refused SliceLength 1 a l ≡ due_events a p w.from w.to l
     unfolding due_events
-    events_short few = rw (start.fresh, w.in_frame, ← whole_walk start, few) refl
+    events_short few = rw (start.fresh, w.in_frame, ← start.whole, few) refl
 
     pub events_done_lem :
-        {new : List ℕ} {count : ℕ} → ltb (length l) (length (slots_ahead a (walk_of k))) ≡ false
-        → (count ≡ length (due_ahead a w (walk_of k))) × (new ≡ written (due_ahead a w (walk_of k)) l) → reply 0 (count ∷ []) a new ≡ due_events a p w.from w.to l
+        {new : List ℕ} {count : ℕ} → ltb (length l) (length (rest_of k)) ≡ false
+        → (count ≡ length (due_ahead w k)) × (new ≡ written (due_ahead w k) l) → reply 0 (count ∷ []) a new ≡ due_events a p w.from w.to l
     unfolding due_events
-    events_done_lem room e = rw (start.fresh, w.in_frame, ← whole_walk start, room, e.0, e.1, due_slots_lem) refl
+    events_done_lem room e = rw (start.fresh, w.in_frame, ← start.whole, room, e.0, e.1, due_slots_lem) refl

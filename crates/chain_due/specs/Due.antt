@@ -1,13 +1,10 @@
 -- What is due of a chain, as the code lists and answers it (REFERENCE, Frame clock).
-use Rattle.std.specs.Prelude.{ℕ, Bool, List, [], ◌∷◌, Result, Ok, Err}
+use Rattle.std.specs.Prelude.{ℕ, Bool, List, [], ◌∷◌}
 use Rattle.definitions.specs.Columns.{at, keep}
-use Rattle.definitions.specs.Arena.{Arena}
 use Rattle.definitions.specs.Clock.{due}
-use Rattle.definitions.specs.Reply.{Reply, reply}
-use Rattle.definitions.specs.Walk.{Walk}
-use Rattle.refusals.specs.declared.Refusal.{Refusal}
-use Rattle.refusals.specs.Refusal.{refused}
-use Rattle.chain_ahead.specs.Ahead.{slots_ahead}
+use Rattle.lent.specs.Arenas.{checked_of}
+use Rattle.chain_ahead.specs.Rest.{rest_of}
+use Rattle.chain_ahead.specs.declared.ChainWalk.{ChainWalk}
 use Rattle.frame_clock.specs.declared.Window.{Window}
 
 -- the payload of slot s is due in the window
@@ -15,10 +12,9 @@ abbrev pub is_due : List ℕ → Window → ℕ → Bool
 is_due vs w s = due w.from w.to (at vs s)
 
 -- the slots that the rest of a walk answers and whose payloads are due
-abbrev pub due_ahead : Arena → Window → Walk → List ℕ
-due_ahead a w k = keep (is_due a.payload w) (slots_ahead a k)
+abbrev pub due_ahead : Window → ChainWalk → List ℕ
+due_ahead w k = keep (is_due (checked_of k.arena).payload w) (rest_of k)
 
--- 0 with how many are due, or the refusal. The arena a is as it was, and the report is handed back
-abbrev pub due_reply : Result ℕ Refusal → Arena → List ℕ → Reply
-due_reply (Ok count) a report = reply 0 (count ∷ []) a report
-due_reply (Err r) a report = refused r 1 a report
+-- how many are due, as the words of an answer
+abbrev pub count_words : ℕ → List ℕ
+count_words count = count ∷ []

@@ -6,12 +6,11 @@ ghost use Rattle.definitions.specs.Clock.{due_count, due_events};
 ghost use Rattle.definitions.specs.Columns.{written};
 ghost use Rattle.lent.specs.Arenas.{checked_of};
 ghost use Rattle.ptr.specs.Pointers.{pointer_of};
-ghost use Rattle.chain_ahead.specs.Ahead.{slots_ahead};
-ghost use Rattle.chain_iterators.specs.Walk.{walk_of, OnChain};
-ghost use Rattle.chain_due.specs.Due.{is_due, due_ahead, due_reply};
+ghost use Rattle.refusals.specs.Refusal.{result_reply};
+ghost use Rattle.chain_ahead.specs.Rest.{rest_of};
+ghost use Rattle.chain_due.specs.Due.{is_due, due_ahead, count_words};
 
-use chain_ahead::too_few;
-use chain_iterators::{ChainPtrAdvancer, advancer_chain};
+use chain_ahead::ChainWalk;
 use columns::word_at;
 use frame_clock::Window;
 use lent::CheckedArena;
@@ -28,13 +27,12 @@ pub fn is_due(payload: &[u32], window: Window, s: Slot) -> bool
 }
 
 // How many links of the rest of a walk are due.
-pub fn due_ahead(arena: CheckedArena<'_>, mut walk: ChainPtrAdvancer, window: Window) -> u32
-    requires { OnChain (checked_of arena) walk.ptr.0 }
-    ensures { result ≡ length (due_ahead (checked_of arena.entry) window (walk_of walk)) }
+pub fn due_ahead(mut walk: ChainWalk<'_>, window: Window) -> u32
+    ensures { result ≡ length (due_ahead window walk.entry) }
 {
     let mut count: u32 = 0;
-    while let Some(p) = walk.advance_on_chain(arena.arena()) {
-        if is_due(arena.payload, window, p.inx) {
+    while let Some(p) = walk.advance() {
+        if is_due(walk.arena.payload, window, p.inx) {
             count += 1;
         }
     }
@@ -42,20 +40,13 @@ pub fn due_ahead(arena: CheckedArena<'_>, mut walk: ChainPtrAdvancer, window: Wi
 }
 
 // Writes the slots of the links that are due into the report, in the order of the walk. Answers how many.
-pub fn list_due(
-    arena: CheckedArena<'_>,
-    mut walk: ChainPtrAdvancer,
-    window: Window,
-    report: &mut [u32],
-) -> u32
-    requires room { length (slots_ahead (checked_of arena) (walk_of walk)) ≤ length report.old }
-    requires on_chain { OnChain (checked_of arena) walk.ptr.0 }
-    ensures { (result ≡ length (due_ahead (checked_of arena.entry) window (walk_of walk)))
-        × (report.new ≡ written (due_ahead (checked_of arena.entry) window (walk_of walk)) report.old) }
+pub fn list_due(mut walk: ChainWalk<'_>, window: Window, report: &mut [u32]) -> u32
+    requires { length (rest_of walk) ≤ length report.old }
+    ensures { (result ≡ length (due_ahead window walk.entry)) × (report.new ≡ written (due_ahead window walk.entry) report.old) }
 {
     let mut reported: u32 = 0;
-    while let Some(p) = walk.advance_on_chain(arena.arena()) {
-        if is_due(arena.payload, window, p.inx) {
+    while let Some(p) = walk.advance() {
+        if is_due(walk.arena.payload, window, p.inx) {
             report[reported as usize] = p.inx.0;
             reported += 1;
         }
@@ -65,11 +56,11 @@ pub fn list_due(
 
 // How many links of p's chain are due (REFERENCE, Frame clock).
 pub fn due_count(arena: CheckedArena<'_>, p: Ptr, from: u32, to: u32) -> Result<u32, Refusal>
-    ensures { due_reply result (checked_of arena.entry) [] ≡ due_count (checked_of arena.entry) (pointer_of p) from to [] }
+    ensures { result_reply count_words 1 result (checked_of arena.entry) [] ≡ due_count (checked_of arena.entry) (pointer_of p) from to [] }
 {
-    let walk = advancer_chain(arena.arena(), p)?;
+    let walk = ChainWalk::new(arena, p)?;
     let window = Window::new(from, to)?;
-    Ok(due_ahead(arena, walk, window))
+    Ok(due_ahead(walk, window))
 }
 
 // Writes the slots of the links of p's chain that are due into the report, in the order of a walk from p (REFERENCE, Frame clock).
@@ -80,12 +71,12 @@ pub fn due_events(
     to: u32,
     report: &mut [u32],
 ) -> Result<u32, Refusal>
-    ensures { due_reply result (checked_of arena.entry) report.new ≡ due_events (checked_of arena.entry) (pointer_of p) from to report.old }
+    ensures { result_reply count_words 1 result (checked_of arena.entry) report.new ≡ due_events (checked_of arena.entry) (pointer_of p) from to report.old }
 {
-    let walk = advancer_chain(arena.arena(), p)?;
+    let walk = ChainWalk::new(arena, p)?;
     let window = Window::new(from, to)?;
-    if too_few(arena, walk, report.len()) {
+    if walk.too_few(report.len()) {
         return Err(Refusal::SliceLength);
     }
-    Ok(list_due(arena, walk, window, report))
+    Ok(list_due(walk, window, report))
 }

@@ -8,13 +8,16 @@ use native.Mathlib.Nat.{pos_of_ne-zero}
 use borrow.Author.Tests.{eq-eqb, ne_eqb}
 use lib.Dec.{eqb}
 use lib.ListN.{length}
-use Rattle.definitions.specs.Arena.{Arena, with_links}
+use Rattle.definitions.specs.Arena.{Arena, stack_length, capacity_limit, with_links}
+use Rattle.definitions.specs.Check.{WellFormed}
 use Rattle.definitions.specs.Columns.{at, put}
 use Rattle.definitions.specs.Edit.{break_prev, break_next}
 use Rattle.definitions.specs.Read.{Pointer, stale}
 use Rattle.definitions.specs.Reply.{reply, refusal}
 use Rattle.base_slots.specs.Removal.{Joinable}
+use Rattle.chain_traits.specs.Read.{stale_in}
 use Rattle.chain_edits.specs.Edits.{break_side}
+use Rattle.chain_edits.proofs.Reading.{found_fresh, stands, next_read, prev_read}
 
 -- the neighbour of p on that side
 abbrev pub neighbour : Arena → Pointer → Bool → ℕ
@@ -40,10 +43,11 @@ pub record Beside (a : Arena) (p : Pointer) (after : Bool) (k : ℕ) : Type 0 wh
   pub stands : Joinable a.prev a.next p.slot
   pub word : k ≡ neighbour a p after
 
--- the neighbour is picked out of the two that were read
-pub beside : (a : Arena) (p : Pointer) (after : Bool) (k x y : ℕ) → stale a p ≡ false → Joinable a.prev a.next p.slot
-    → x ≡ at a.prev p.slot → y ≡ at a.next p.slot → k ≡ cond after y x → Beside a p after k
-beside a p after k x y f s ex ey e = record { fresh = f; stands = s; word = rw (← ex, ← ey) e }
+-- the neighbour is picked out of the two that were read in b, which is a and is lent to be read
+pub beside : {a b : Arena} → b ≡ a → (p : Pointer) (after : Bool) {k x y : ℕ} {r : Bool} → WellFormed capacity_limit a → r ≡ stale_in b.generation (stack_length b) p → r ≡ false
+    → x ≡ at b.prev p.slot → y ≡ at b.next p.slot → k ≡ cond after y x → Beside a p after k
+beside same p after ok read f ex ey e =
+    record { fresh = found_fresh same p read f; stands = stands same p ok read f; word = rw (← prev_read same p.slot ex, ← next_read same p.slot ey) e }
 
 module _ {a : Arena} {p : Pointer} {after : Bool} {k : ℕ} (here : Beside a p after k) where
   pub side_none : k ≡ 0 → refusal 13 0 a [] ≡ break_side a p after

@@ -8,7 +8,8 @@ ghost use Rattle.definitions.specs.Check.{WellFormed};
 ghost use Rattle.definitions.specs.Edit.{connect, break_prev, break_next, exchange_next};
 ghost use Rattle.lent.specs.Arenas.{links_of, SameLinks};
 ghost use Rattle.ptr.specs.Pointers.{pointer_of};
-ghost use Rattle.chain_edits.specs.Edits.{edited_reply, break_side};
+ghost use Rattle.refusals.specs.Refusal.{no_words, result_reply};
+ghost use Rattle.chain_edits.specs.Edits.{break_side};
 
 use chain_traits::stale;
 use columns::{set_at, slot_at};
@@ -21,7 +22,7 @@ use refusals::Refusal;
 pub fn connect(arena: &mut LinksMut<'_>, p_prev: Ptr, p_next: Ptr) -> Result<(), Refusal>
     requires { WellFormed capacity_limit (links_of arena.old) }
     ensures lent { SameLinks arena.old arena.new }
-    ensures edited { edited_reply result (links_of arena.new) ≡ connect (links_of arena.old) (pointer_of p_prev) (pointer_of p_next) [] }
+    ensures edited { result_reply no_words 0 result (links_of arena.new) [] ≡ connect (links_of arena.old) (pointer_of p_prev) (pointer_of p_next) [] }
 {
     let now = arena.lent();
     let n = now.header[STACK_LENGTH] as usize;
@@ -47,7 +48,7 @@ pub fn connect(arena: &mut LinksMut<'_>, p_prev: Ptr, p_next: Ptr) -> Result<(),
 pub fn break_side(arena: &mut LinksMut<'_>, p: Ptr, after: bool) -> Result<(), Refusal>
     requires { WellFormed capacity_limit (links_of arena.old) }
     ensures lent { SameLinks arena.old arena.new }
-    ensures edited { edited_reply result (links_of arena.new) ≡ break_side (links_of arena.old) (pointer_of p) after }
+    ensures edited { result_reply no_words 0 result (links_of arena.new) [] ≡ break_side (links_of arena.old) (pointer_of p) after }
 {
     let now = arena.lent();
     let n = now.header[STACK_LENGTH] as usize;
@@ -69,7 +70,7 @@ pub fn break_side(arena: &mut LinksMut<'_>, p: Ptr, after: bool) -> Result<(), R
 pub fn break_prev(arena: &mut LinksMut<'_>, p: Ptr) -> Result<(), Refusal>
     requires { WellFormed capacity_limit (links_of arena.old) }
     ensures lent { SameLinks arena.old arena.new }
-    ensures edited { edited_reply result (links_of arena.new) ≡ break_prev (links_of arena.old) (pointer_of p) [] }
+    ensures edited { result_reply no_words 0 result (links_of arena.new) [] ≡ break_prev (links_of arena.old) (pointer_of p) [] }
 {
     break_side(arena, p, false)
 }
@@ -78,7 +79,7 @@ pub fn break_prev(arena: &mut LinksMut<'_>, p: Ptr) -> Result<(), Refusal>
 pub fn break_next(arena: &mut LinksMut<'_>, p: Ptr) -> Result<(), Refusal>
     requires { WellFormed capacity_limit (links_of arena.old) }
     ensures lent { SameLinks arena.old arena.new }
-    ensures edited { edited_reply result (links_of arena.new) ≡ break_next (links_of arena.old) (pointer_of p) [] }
+    ensures edited { result_reply no_words 0 result (links_of arena.new) [] ≡ break_next (links_of arena.old) (pointer_of p) [] }
 {
     break_side(arena, p, true)
 }
@@ -96,7 +97,7 @@ pub fn set_two(column: &mut [u32], s: Slot, v: Slot, t: Slot, w: Slot)
 pub fn exchange_next(arena: &mut LinksMut<'_>, p0: Ptr, p1: Ptr) -> Result<(), Refusal>
     requires { WellFormed capacity_limit (links_of arena.old) }
     ensures lent { SameLinks arena.old arena.new }
-    ensures edited { edited_reply result (links_of arena.new) ≡ exchange_next (links_of arena.old) (pointer_of p0) (pointer_of p1) [] }
+    ensures edited { result_reply no_words 0 result (links_of arena.new) [] ≡ exchange_next (links_of arena.old) (pointer_of p0) (pointer_of p1) [] }
 {
     let now = arena.lent();
     let n = now.header[STACK_LENGTH] as usize;

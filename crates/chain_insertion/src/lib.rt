@@ -6,9 +6,9 @@ ghost use Rattle.definitions.specs.Arena.{capacity_limit};
 ghost use Rattle.definitions.specs.Check.{WellFormed};
 ghost use Rattle.definitions.specs.Insert.{kind_of, insert, insert_coded};
 ghost use Rattle.lent.specs.Arenas.{held_in, SameBuffers};
-ghost use Rattle.ptr.specs.Pointers.{pointer_of};
+ghost use Rattle.ptr.specs.Pointers.{pointer_of, pointer_words};
 ghost use Rattle.insert_kinds.specs.Kinds.{insert_kind_of};
-ghost use Rattle.chain_insertion.specs.Inserted.{inserted_reply};
+ghost use Rattle.refusals.specs.Refusal.{result_reply};
 
 use base_insertion::{insert_between, new_slot};
 use insert_check::check_link_insert_kind;
@@ -21,7 +21,7 @@ use refusals::Refusal;
 #[tactic(auto, using(crate::proofs::Insertions::by_slot), unfolding(definitions::specs::Insert::insert_at))]
 pub fn insert(arena: &mut ArenaMut<'_>, kind: LinkInsertKind, x: u32) -> Result<Ptr, Refusal>
     requires { WellFormed capacity_limit (held_in arena.old) }
-    ensures inserted { inserted_reply result (held_in arena.new) [] ≡ insert (held_in arena.old) (insert_kind_of kind) x [] }
+    ensures inserted { result_reply pointer_words 2 result (held_in arena.new) [] ≡ insert (held_in arena.old) (insert_kind_of kind) x [] }
     ensures lent { SameBuffers arena.old arena.new }
 {
     let now = arena.lent().shaped();
@@ -45,7 +45,7 @@ pub fn insert_coded(
     x: u32,
 ) -> Result<Ptr, Refusal>
     requires { WellFormed capacity_limit (held_in arena.old) }
-    ensures inserted { inserted_reply result (held_in arena.new) []
+    ensures inserted { result_reply pointer_words 2 result (held_in arena.new) []
         ≡ insert_coded (held_in arena.old) (kind_of code (pointer_of p) (pointer_of q)) x [] }
     ensures lent { SameBuffers arena.old arena.new }
 {

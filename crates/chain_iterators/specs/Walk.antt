@@ -1,12 +1,9 @@
--- The walk's state and answers as the definitions have them, and as numbers and words (REFERENCE, Walk).
-use Rattle.std.specs.Prelude.{ℕ, ◌≡◌, ◌⊎◌, true, List, Option, Some, None, Result, Ok, Err}
+-- The walk's state and answers as the definitions have them, and as words (REFERENCE, Walk).
+use Rattle.std.specs.Prelude.{ℕ, ◌≡◌, ◌⊎◌, true, List, Option, Some, None}
 use Rattle.definitions.specs.Arena.{Arena, is_link}
-use Rattle.definitions.specs.Reply.{Reply, reply}
 use Rattle.definitions.specs.Walk.{Walk, walk, state_words, Stepped, none}
 use Rattle.ptr.specs.declared.Ptr.{Ptr}
 use Rattle.ptr.specs.Pointers.{pointer_of}
-use Rattle.refusals.specs.declared.Refusal.{Refusal}
-use Rattle.refusals.specs.Refusal.{refused}
 use Rattle.chain_iterators.specs.declared.ChainPtrAdvancer.{ChainPtrAdvancer}
 
 -- the code's state: where it began, its position, its direction and how many steps may advance
@@ -22,7 +19,6 @@ stepped_of None w = none (walk_of w)
 abbrev pub OnChain : Arena → ℕ → Type 0
 OnChain a s = (s ≡ 0) ⊎ (is_link a s ≡ true)
 
--- 0 and the state's words, or the refusal. The arena a and what was handed in stay as they were
-abbrev pub start_reply : Result ChainPtrAdvancer Refusal → Arena → List ℕ → Reply
-start_reply (Ok w) a hands = reply 0 (state_words (walk_of w)) a hands
-start_reply (Err r) a hands = refused r 4 a hands
+-- the words of the code's state
+abbrev pub walk_words : ChainPtrAdvancer → List ℕ
+walk_words w = state_words (walk_of w)

@@ -7,7 +7,8 @@ ghost use Rattle.definitions.specs.Arena.{allocated, is_link};
 ghost use Rattle.definitions.specs.Walk.{walk, walk_start, onward, step};
 ghost use Rattle.lent.specs.Arenas.{arena_of};
 ghost use Rattle.ptr.specs.Pointers.{pointer_of};
-ghost use Rattle.chain_iterators.specs.Walk.{walk_of, stepped_of, OnChain, start_reply};
+ghost use Rattle.refusals.specs.Refusal.{result_reply};
+ghost use Rattle.chain_iterators.specs.Walk.{walk_of, stepped_of, OnChain, walk_words};
 
 use chain_traits::{is_link, stale};
 use columns::{slot_at, word_at};
@@ -44,7 +45,7 @@ pub fn prev_of(prev: &[u32], generation: &[u32], n: usize, s: Slot) -> Slot
 // Starts a walk at p, with as many advances as there are links.
 #[tactic(auto, using(chain_traits::proofs::Fresh::stale_of), unfolding(definitions::specs::Walk::walk_start))]
 pub fn advancer_chain(arena: ArenaRef<'_>, p: Ptr) -> Result<ChainPtrAdvancer, Refusal>
-    ensures { start_reply result (arena_of arena.entry) []
+    ensures { result_reply walk_words 4 result (arena_of arena.entry) []
         ≡ walk_start (arena_of arena.entry) (pointer_of p) [] }
 {
     if stale(arena.generation, arena.stack_length(), p) {

@@ -1,11 +1,13 @@
 -- The loop over the commands: after i of them the arena and the answers are those of the first i. Assumes nothing.
 use Prim.Native.Nat.{ℕ, ◌+◌, ◌/◌, ◌%◌, ◌≤◌, ◌<◌}
-use mathlib.Core.List.{List, [], ◌∷◌, ◌++◌, map, map-append}
+use mathlib.Core.List.{List, [], ◌∷◌, ◌++◌, map, map-append, append-nil}
 use mathlib.Core.Path.{◌≡◌, refl, ◌∙◌}
 use native.Mathlib.Nat.{zero-add}
 use native.Mathlib.Numerals.{add-one}
 use native.Mathlib.Omega.{arith}
-use lib.ListN.{length, set, length-set, length-map}
+use lib.ListN.{length, set, take, drop, length-set, length-map}
+use lib.Seq.{length-take-le}
+use Rattle.std.proofs.lemmas.List.{drop_all}
 use Rattle.definitions.proofs.Slots.{slots_snoc, length_slots}
 use Rattle.definitions.proofs.Tests.{tests}
 use Rattle.definitions.proofs.Written.{written_more}
@@ -64,8 +66,19 @@ module _ (top : ℕ) (a₀ : Arena) (ws old : List ℕ) where
         many = length-set told i r ∙ g.many;
       }
 
-  pub ends : (i : ℕ) (a : Arena) (told : List ℕ) → Going top a₀ ws old i a told → i ≡ length ws / command_words → AllApplied top a₀ ws old a told
-  ends i a told g e = record { arena = rw e at g.arena; answers = rw e at g.answers }
+  -- the answers stand at the front of the words that were lent for them
+  pub ends :
+      (n i : ℕ) (a : Arena) (told : List ℕ) → Going top a₀ ws (take n old) i a told → n ≡ length ws / command_words → n ≤ length old → length (take n old) ≤ i
+      → AllApplied top a₀ ws old a (told ++ drop n old)
+  unfolding written
+  ends n i a told g e room h =
+      let size : length (take n old) ≡ n = length-take-le n old room in
+      let last : i ≡ n = omega (arith, g.within) in
+      let xs = answers_of top a₀ (first_commands ws n) in
+      let count : length xs ≡ n = an_answer_each top a₀ (first_commands ws n) ∙ how_many ws n in
+      let none : drop (length xs) (take n old) ≡ [] = drop_all (length xs) (take n old) (omega arith) in
+      let whole : told ≡ xs = rw last at g.answers ∙ rw none (append-nil xs) in
+      record { arena = rw (← e) (rw last at g.arena); answers = rw (← e, whole, count) refl }
 
 -- a run whose commands are whole and have an answer word each
 pub ran : (top : ℕ) (a : Arena) (ws old : List ℕ) (left : Arena) (told : List ℕ) → length ws % command_words ≡ 0 → length ws / command_words ≤ length old → AllApplied top a ws old left told

@@ -7,7 +7,8 @@ ghost use Rattle.definitions.specs.Check.{WellFormed};
 ghost use Rattle.definitions.specs.Run.{command_words, command_at, run};
 ghost use Rattle.lent.specs.Arenas.{held_in, SameBuffers};
 ghost use Rattle.chain_commands.specs.Commands.{Applied, command_number};
-ghost use Rattle.chain_run.specs.Ran.{AllApplied, ran_reply};
+ghost use Rattle.refusals.specs.Refusal.{no_words, result_reply};
+ghost use Rattle.chain_run.specs.Ran.{AllApplied};
 
 use chain_commands::{COMMAND_WORDS, apply, command_at};
 use lent::ArenaMut;
@@ -46,8 +47,8 @@ pub fn apply_all(arena: &mut ArenaMut<'_>, commands: &[u32], answers: &mut [u32]
     ensures applied { AllApplied largest_generation (held_in arena.old) commands.now answers.old (held_in arena.new) answers.new }
 {
     let n = commands.len() / COMMAND_WORDS;
-    for i in 0..n {
-        answers[i] = answer_word(apply_at(arena, commands, i));
+    for (i, answer) in answers[..n].iter_mut().enumerate() {
+        *answer = answer_word(apply_at(arena, commands, i));
     }
 }
 
@@ -56,7 +57,7 @@ pub fn apply_all(arena: &mut ArenaMut<'_>, commands: &[u32], answers: &mut [u32]
 pub fn run(arena: &mut ArenaMut<'_>, commands: &[u32], answers: &mut [u32]) -> Result<(), Refusal>
     requires { WellFormed capacity_limit (held_in arena.old) }
     ensures lent { SameBuffers arena.old arena.new }
-    ensures ran { ran_reply result (held_in arena.new) answers.new ≡ run largest_generation (held_in arena.old) commands.now answers.old }
+    ensures ran { result_reply no_words 0 result (held_in arena.new) answers.new ≡ run largest_generation (held_in arena.old) commands.now answers.old }
 {
     if commands.len() % COMMAND_WORDS != 0 {
         return Err(Refusal::Command);

@@ -13,7 +13,7 @@ use Rattle.definitions.specs.Columns.{at, settled}
 use Rattle.definitions.specs.Arena.{Arena, arena, capacity_limit, capacity, stack_length, link_count, with_stack_length, with_link_count, with_root, with_current, with_header, is_link}
 use Rattle.definitions.specs.Check.{WellFormed, verdict}
 use Rattle.definitions.specs.Reply.{reply}
-use Rattle.definitions.specs.Compress.{Laying, laid_out, raises, compress_generation, compress_number, compressed_header, canonical_arena, compress_canonical}
+use Rattle.definitions.specs.Compress.{Laying, laid_out, compress_generation, compressed_header, canonical_arena, compress_canonical}
 use Rattle.definitions.proofs.Tests.{by_test, not_eq, not_ne}
 use Rattle.definitions.proofs.Slots.{links_and_free}
 use Rattle.definitions.proofs.Parts.{at_take, at_append_left, at_append_right, same_words}
@@ -190,28 +190,20 @@ pub refused : (top : ℕ) (reset : Bool) (a : Arena) (where_from : List ℕ) →
 unfolding compress_canonical
 refused top reset a where_from d = rw (not_ne (length where_from) (capacity a) d) refl
 
--- the generation is renewed as in an arena with the same header
-renewed_alike : {top : ℕ} {reset : Bool} {a b : Arena} {k : ℕ} {h : List ℕ} → b.header ≡ a.header → Renewed top reset b k h → Renewed top reset a k h
-unfolding raises compress_generation compress_number
-renewed_alike e r = record { number = rw (← e) r.number; header = rw (← e) r.header }
+-- a is laid out, in the arena b, whose generation is then renewed, so that it has the header h
+module _ {top : ℕ} {reset : Bool} {a : Arena} (b : Arena) {k : ℕ} {h : List ℕ} (where_from ws : List ℕ) (passed : verdict capacity_limit a ≡ 0) (laid : LaidIn a where_from (lent b.prev b.next b.payload ws))
+    (others : (b.generation ≡ a.generation) × (b.header ≡ a.header)) (renewed : (ps ns gs vs : List ℕ) → Renewed top reset (arena ps ns gs vs b.header) k h) where
+  now_renewed : Renewed top reset a k h
+  now_renewed = rw others.1 at (renewed a.prev a.next a.generation a.payload)
 
--- a is laid out, in the arena b, which is then in the new generation, and is the arena d
-module _ {top : ℕ} {reset : Bool} {a b d : Arena} {k : ℕ} (where_from ws : List ℕ) (passed : verdict capacity_limit a ≡ 0) (laid : LaidIn a where_from (lent b.prev b.next b.payload ws))
-    (others : (b.generation ≡ a.generation) × (b.header ≡ a.header)) (renewed : Renewed top reset b k d.header) (in_new : d ≡ with_header b d.header) where
-  now_renewed : Renewed top reset a k d.header
-  now_renewed = renewed_alike others.1 renewed
-
-  parts : d ≡ arena b.prev b.next a.generation b.payload d.header
-  parts = rw (← others.0) in_new
-
-  pub shrinkable : Shrinkable d
+  pub shrinkable : Shrinkable (with_header b h)
   shrinkable =
-      rw parts (can_shrink capacity_limit a (well_formed_if_passes capacity_limit a passed) where_from (lent b.prev b.next b.payload ws) laid (compress_generation top reset a) d.header now_renewed.header)
+      rw others.0 (can_shrink capacity_limit a (well_formed_if_passes capacity_limit a passed) where_from (lent b.prev b.next b.payload ws) laid (compress_generation top reset a) h now_renewed.header)
 
-  pub compressed : {left : Arena} → length where_from ≡ capacity a → left ≡ shrunk d → reply k [] left ws ≡ compress_canonical top reset a where_from
+  pub compressed : {left : Arena} → length where_from ≡ capacity a → left ≡ shrunk (with_header b h) → reply k [] left ws ≡ compress_canonical top reset a where_from
   unfolding compress_canonical
   compressed e shrinks =
       let ok = well_formed_if_passes capacity_limit a passed in
       let c = lent b.prev b.next b.payload ws in
-      rw (not_eq (length where_from) (capacity a) e, now_renewed.number, shrinks, parts, shrunk_canonical capacity_limit a ok where_from c laid (compress_generation top reset a) d.header now_renewed.header, where_from_settled capacity_limit a ok where_from c laid)
+      rw (not_eq (length where_from) (capacity a) e, now_renewed.number, shrinks, others.0, shrunk_canonical capacity_limit a ok where_from c laid (compress_generation top reset a) h now_renewed.header, where_from_settled capacity_limit a ok where_from c laid)
       refl

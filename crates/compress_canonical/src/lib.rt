@@ -72,7 +72,7 @@ pub fn compress_canonical(
         return Err(Refusal::SliceLength);
     }
     lay_out(arena, where_from);
-    let renewed = renew_generation(arena, reset);
+    let renewed = renew_generation(arena.header, reset);
     shrink(arena);
     Ok(renewed)
 }

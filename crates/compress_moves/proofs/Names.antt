@@ -10,13 +10,13 @@ use Rattle.definitions.specs.Arena.{allocated, link_slots}
 use Rattle.definitions.specs.Compress.{place}
 use Rattle.definitions.proofs.Tests.{by_test}
 use Rattle.definitions.proofs.Columns.{at_zero}
-use Rattle.definitions.proofs.Slots.{allocated_yes, allocated_free, allocated_some, allocated_within, length_slots, keep_parts, links_and_free, count_slots_out}
+use Rattle.definitions.proofs.Slots.{allocated_yes, allocated_free, allocated_some, allocated_within, length_slots, keep_parts, count_slots_out}
 use Rattle.definitions.proofs.Parts.{at_map, at_own}
 use Rattle.definitions.proofs.Count.{keep_agree, keep_yes, keep_no, in_slots}
 use Rattle.renaming.proofs.Place.{place_none}
 use Rattle.compress_moves.specs.Moves.{numbered, Full}
 use Rattle.definitions.proofs.Written.{length_written, written_reads}
-use Rattle.compress_moves.proofs.Place.{place_lacks, place_has, place_within, place_own}
+use Rattle.compress_moves.proofs.Place.{place_lacks, place_has, place_own}
 
 -- a list of which nothing is left out
 pub keep_all : (test : ℕ → Bool) (xs : List ℕ) → length xs ≤ length (keep test xs) → keep test xs ≡ xs
@@ -51,9 +51,6 @@ module _ (gs : List ℕ) (n : ℕ) (room : n ≤ length gs) where
       let words = map (place w) (slots_from 1 n) in
       written_reads words gs (suc i) (omega (arith, numbers_long))
       ∙ (at_map (place w) (slots_from 1 n) (suc i) (omega arith) (rw (length_slots 1 n) h) ∙ ap (place w) (at_own n (suc i) h))
-
-  pub numbered_small : (s : ℕ) → s ≤ n → at (numbered gs n) s ≤ n
-  numbered_small s h = rw (numbered_at s h) (omega (arith, place_within w s, links_and_free gs n))
 
   -- the numbers show the same links
   numbered_agrees : (s : ℕ) → 1 ≤ s → s ≤ n → allocated (numbered gs n) n s ≡ allocated gs n s

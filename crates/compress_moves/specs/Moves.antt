@@ -1,7 +1,7 @@
 -- What the steps of a compression leave: the generation, then the links' new slots in the generation column, then the columns moved down.
-use Rattle.std.specs.Prelude.{ℕ, suc, ◌*◌, ◌≤◌, ◌<◌, ◌≡◌, Bool, true, List, map, length, get_or, set}
+use Rattle.std.specs.Prelude.{ℕ, suc, ◌*◌, ◌≤◌, ◌<◌, ◌≡◌, Bool, true, List, map, length, get_or}
 use Rattle.definitions.specs.Columns.{at, slots_from, written}
-use Rattle.definitions.specs.Arena.{Arena, arena, capacity_limit, stack_length, with_current, allocated, link_slots}
+use Rattle.definitions.specs.Arena.{Arena, capacity_limit, with_current, allocated, link_slots}
 use Rattle.definitions.specs.Compress.{compress_generation, compress_number, place, moves_of}
 
 -- the generation is renewed: the answer's number, and the header that is left
@@ -26,19 +26,6 @@ new_name numbers column o = at numbers (at column o)
 -- a column with the words f of its links, those that the numbers show, moved to its front in slot order
 abbrev pub carried : (ℕ → ℕ) → List ℕ → ℕ → List ℕ → List ℕ
 carried f numbers n column = written (map f (link_slots numbers n)) column
-
--- arena a with the words of the link in slot s at place k of the columns, its neighbours under their new names; the generations are the new names
-abbrev pub moved_link : ℕ → ℕ → Arena → Arena
-moved_link s k a =
-    arena (set a.prev k (new_name a.generation a.prev s)) (set a.next k (new_name a.generation a.next s)) a.generation (set a.payload k (at a.payload s)) a.header
-
--- arena a with all its links, those that the numbers show, moved to the front
-abbrev pub moved_down : Arena → Arena
-moved_down a =
-    let n = stack_length a in
-    arena (carried (new_name a.generation a.prev) a.generation n a.prev) (carried (new_name a.generation a.next) a.generation n a.next) a.generation
-    (carried (at a.payload) a.generation n a.payload)
-    a.header
 
 -- every slot up to n is a link, and keeps its slot
 abbrev pub Full : List ℕ → ℕ → Type 0

@@ -5,32 +5,29 @@
 ghost use Rattle.std.specs.Prelude.{◌≡◌, List, [], ◌∷◌, ◌++◌, ℕ, ◌+◌, ◌*◌, ◌≤◌, ◌<◌, length, set, drop, replicate};
 ghost use Rattle.std.proofs.lemmas.List.Edits.{sets};
 ghost use Rattle.definitions.specs.Columns.{at};
-ghost use Rattle.definitions.specs.Arena.{arena, capacity_limit, largest_generation, header_words, stack_length, link_count, link_slots, with_header};
+ghost use Rattle.definitions.specs.Arena.{arena, capacity_limit, largest_generation, header_words, link_slots};
 ghost use Rattle.lent.specs.Arenas.{held_in, SameBuffers};
 ghost use Rattle.ptr.specs.Extra.{invalidation_number};
-ghost use Rattle.compress_moves.specs.Moves.{Renewed, Numbered, new_name, moved_link, Movable, moved_down};
+ghost use Rattle.compress_moves.specs.Moves.{Renewed, Numbered, new_name, Movable, carried};
 ghost use Rattle.compress_moves.specs.Shrunk.{Shrinkable, shrunk};
 
 use base_freelist::{inc_generation, pop_slots};
-use columns::{slot_at, word_at};
+use columns::slot_at;
 use header::{CURRENT_GENERATION, LINK_COUNT, ROOT, STACK_LENGTH};
 use lent::ArenaMut;
-use links::LinkNoGen;
 use ptr::{Gen, InvalidationOption, Ptr, Slot};
 
 // The generation of a compression: 2 with reset, else one step on, but the same where there is no link. Answers whether the step overflowed.
-pub fn renew_generation(arena: &mut ArenaMut<'_>, reset: bool) -> InvalidationOption
-    requires { length arena.old.header.now ≡ header_words }
-    ensures renewed { Renewed largest_generation reset (held_in arena.old) (invalidation_number result) arena.new.header.now }
-    ensures others { held_in arena.new ≡ with_header (held_in arena.old) arena.new.header.now }
-    ensures lent { SameBuffers arena.old arena.new }
+pub fn renew_generation(header: &mut [u32], reset: bool) -> InvalidationOption
+    requires { length header.old ≡ header_words }
+    ensures { (ps ns gs vs : List ℕ) → Renewed largest_generation reset (arena ps ns gs vs header.old) (invalidation_number result) header.new }
 {
     if reset {
-        arena.header[CURRENT_GENERATION] = Gen::TWO.0;
+        header[CURRENT_GENERATION] = Gen::TWO.0;
         return InvalidationOption::Success;
     }
-    if arena.header[LINK_COUNT] != 0 {
-        return inc_generation(arena.header);
+    if header[LINK_COUNT] != 0 {
+        return inc_generation(header);
     }
     InvalidationOption::Success
 }
@@ -76,6 +73,7 @@ pub fn number_links(generation: &mut [u32], report: &mut [u32], links: usize, ne
 }
 
 // The new slot of the link in slot s; slot 0 of slot 0, which is none.
+#[tactic(auto, using(definitions::proofs::Columns::at_zero))]
 pub fn new_slot(numbers: &[u32], s: Slot) -> Slot
     requires { s.0 ≤ length numbers.now }
     ensures { result.0 ≡ at numbers.now s.0 }
@@ -86,50 +84,53 @@ pub fn new_slot(numbers: &[u32], s: Slot) -> Slot
     slot_at(numbers, s)
 }
 
-// The link in slot s, its neighbours under their new names.
-fn renamed_link(arena: &ArenaMut<'_>, s: Slot) -> LinkNoGen
-    requires within { (0 < s.0) × (s.0 ≤ length arena.now.prev.now) × (s.0 ≤ length arena.now.next.now) × (s.0 ≤ length arena.now.payload.now) }
-    requires numbered { (at arena.now.prev.now s.0 ≤ length arena.now.generation.now) × (at arena.now.next.now s.0 ≤ length arena.now.generation.now) }
-    ensures { (result.prev.0 ≡ new_name arena.now.generation.now arena.now.prev.now s.0)
-        × (result.next.0 ≡ new_name arena.now.generation.now arena.now.next.now s.0)
-        × (result.t ≡ at arena.now.payload.now s.0) }
-{
-    let numbers = &*arena.generation;
-    LinkNoGen {
-        prev: new_slot(numbers, slot_at(&*arena.prev, s)),
-        next: new_slot(numbers, slot_at(&*arena.next, s)),
-        t: word_at(&*arena.payload, s),
-    }
-}
-
 // Moves the words of the link in slot s to place k, its neighbours under their new names.
-pub fn move_link(arena: &mut ArenaMut<'_>, s: Slot, k: usize)
-    requires before { (k < s.0) × (s.0 ≤ length arena.old.prev.now) × (s.0 ≤ length arena.old.next.now) × (s.0 ≤ length arena.old.payload.now) }
-    requires numbered { (at arena.old.prev.now s.0 ≤ length arena.old.generation.now) × (at arena.old.next.now s.0 ≤ length arena.old.generation.now) }
-    ensures moved { held_in arena.new ≡ moved_link s.0 k (held_in arena.old) }
-    ensures lent { SameBuffers arena.old arena.new }
+pub fn move_link(
+    prev: &mut [u32],
+    next: &mut [u32],
+    payload: &mut [u32],
+    numbers: &[u32],
+    s: usize,
+    k: usize,
+)
+    requires before { (k < s) × (s ≤ length prev.old) × (s ≤ length next.old) × (s ≤ length payload.old) }
+    requires numbered { (at prev.old s ≤ length numbers.now) × (at next.old s ≤ length numbers.now) }
+    ensures { (prev.new ≡ set prev.old k (new_name numbers.now prev.old s))
+        × (next.new ≡ set next.old k (new_name numbers.now next.old s))
+        × (payload.new ≡ set payload.old k (at payload.old s)) }
 {
-    let link = renamed_link(&*arena, s);
-    arena.prev[k] = link.prev.0;
-    arena.next[k] = link.next.0;
-    arena.payload[k] = link.t;
+    prev[k] = new_slot(numbers, Slot(prev[s - 1])).0;
+    next[k] = new_slot(numbers, Slot(next[s - 1])).0;
+    payload[k] = payload[s - 1];
 }
 
-// Moves the links that the report lists down to the front. Nothing moves where no slot of the stack is free.
-pub fn move_down(arena: &mut ArenaMut<'_>, report: &[u32])
-    requires header { length arena.old.header.now ≡ header_words }
-    requires movable { Movable arena.old.prev.now arena.old.next.now arena.old.payload.now arena.old.generation.now report.now
-        (stack_length (held_in arena.old)) (link_count (held_in arena.old)) }
-    ensures moved { held_in arena.new ≡ moved_down (held_in arena.old) }
-    ensures lent { SameBuffers arena.old arena.new }
+// Moves the links that the report lists down to the front. Nothing moves where no slot of the n is free.
+pub fn move_down(
+    prev: &mut [u32],
+    next: &mut [u32],
+    payload: &mut [u32],
+    numbers: &[u32],
+    report: &[u32],
+    n: usize,
+    links: usize,
+)
+    requires { Movable prev.old next.old payload.old numbers.now report.now n links }
+    ensures { (prev.new ≡ carried (new_name numbers.now prev.old) numbers.now n prev.old)
+        × (next.new ≡ carried (new_name numbers.now next.old) numbers.now n next.old)
+        × (payload.new ≡ carried (at payload.old) numbers.now n payload.old) }
 {
-    let n = arena.header[STACK_LENGTH];
-    let links = arena.header[LINK_COUNT];
     if links == n {
         return;
     }
-    for k in 0..links as usize {
-        move_link(arena, Slot(report[4 * k]), k);
+    for k in 0..links {
+        move_link(
+            &mut *prev,
+            &mut *next,
+            &mut *payload,
+            numbers,
+            report[4 * k] as usize,
+            k,
+        );
     }
 }
 

@@ -71,28 +71,28 @@ module _ (a : Arena) (passed : verdict capacity_limit a ≡ 0) (g : ℕ) where
   unfolding relocate
   same_relocation w = rw (stack, set-set a.header 3 g g) refl
 
-module _ {top : ℕ} {reset : Bool} {a b : Arena} {k : ℕ} (passed : verdict capacity_limit a ≡ 0) (renewed : Renewed top reset a k b.header) (others : b ≡ with_header a b.header) where
-  in_new : b ≡ with_header a (with_current (compress_generation top reset a) a.header)
-  in_new = others ∙ ap (with_header a) renewed.header
+module _ {top : ℕ} {reset : Bool} {a : Arena} {k : ℕ} {h : List ℕ} (passed : verdict capacity_limit a ≡ 0) (renewed : Renewed top reset a k h) where
+  abbrev b : Arena
+  b = with_header a h
 
-  pub header_words_stay : length b.header ≡ header_words
+  pub header_words_stay : length h ≡ header_words
   header_words_stay =
       let g = compress_generation top reset a in
       ap length renewed.header ∙ (length-set a.header 3 g ∙ four a passed g)
 
   module _ (report : List ℕ) (room : 4 * link_count a ≤ length report) where
-    pub compressible_again : Compressible b.prev b.next b.generation b.payload (stack_length b) (link_count b) (length report)
+    pub compressible_again : Compressible a.prev a.next a.generation a.payload (stack_length b) (link_count b) (length report)
     compressible_again =
         let g = compress_generation top reset a in
-        rw (in_new, stack a passed g, links a passed g) (compressible a passed room)
+        rw (renewed.header, stack a passed g, links a passed g) (compressible a passed room)
 
     pub compressed : {left : Arena} {told : List ℕ}
-        → left ≡ relocate (link_slots b.generation (stack_length b)) (current b) b
-        → told ≡ written (moves_of b (current b) 1 (link_slots b.generation (stack_length b))) report
+        → left ≡ relocate (link_slots a.generation (stack_length b)) (current b) b
+        → told ≡ written (moves_of b (current b) 1 (link_slots a.generation (stack_length b))) report
         → reply k [] left told ≡ compress_with top reset a report
     unfolding compress_with
     compressed moved reported =
         let g = compress_generation top reset a in
         let w = link_slots a.generation (stack_length a) in
-        rw (le-ltb _ _ room, renewed.number, moved, reported, in_new, stack a passed g, new a passed g, same_relocation a passed g w, moves_read (with_header a (with_current g a.header)) a g 1 w refl)
+        rw (le-ltb _ _ room, renewed.number, moved, reported, renewed.header, stack a passed g, new a passed g, same_relocation a passed g w, moves_read (with_header a (with_current g a.header)) a g 1 w refl)
         refl

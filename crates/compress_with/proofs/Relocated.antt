@@ -9,15 +9,16 @@ use lib.ListN.{length, get_or, drop, replicate, length-map}
 use lib.Seq.{take-append_seam}
 use Rattle.definitions.specs.Columns.{at, slots_from, settled, written}
 use Rattle.definitions.specs.Arena.{Arena, arena, header_words, stack_length, link_count, current, allocated, link_slots}
-use Rattle.definitions.specs.Compress.{place, moves_of, relocate}
+use Rattle.definitions.specs.Compress.{place, moves_of, compressed_header, relocate}
 use Rattle.definitions.proofs.Columns.{at_suc}
 use Rattle.definitions.proofs.Slots.{links_and_free}
 use Rattle.definitions.proofs.Count.{only_links}
 use Rattle.definitions.proofs.Written.{length_written, written_rest, written_reads}
 use Rattle.base_freelist.specs.Popped.{popped}
 use Rattle.base_freelist.proofs.Settled.{settled_over}
-use Rattle.compress_moves.specs.Moves.{numbered, new_name, carried, Movable, moved_down, Compressible}
+use Rattle.compress_moves.specs.Moves.{numbered, new_name, carried, Movable, Compressible}
 use Rattle.compress_moves.specs.Shrunk.{Shrinkable, shrunk}
+use Rattle.renaming.proofs.CompressWith.{moves_read}
 use Rattle.compress_moves.proofs.Numbers.{length_moves}
 use Rattle.compress_moves.proofs.Moving.{map_agree}
 use Rattle.compress_moves.proofs.Shrinks.{shrunk_header}
@@ -58,7 +59,7 @@ module _ {ps ns gs vs : List ℕ} {n links room : ℕ} (can : Compressible ps ns
   same_links : link_slots numbers n ≡ w
   same_links = numbered_links gs n fits
 
-  few : links ≤ n
+  pub few : links ≤ n
   few = omega (arith, can.counted, links_and_free gs n)
 
   -- the numbers and the report say what to move where
@@ -110,15 +111,29 @@ module _ {ps ns gs vs : List ℕ} {n links room : ℕ} (can : Compressible ps ns
     few,
   )
 
-module _ {a : Arena} {room : ℕ} (can : Compressible a.prev a.next a.generation a.payload (stack_length a) (link_count a) room) {numbers : List ℕ} {moved : Arena}
-    (named : numbers ≡ numbered a.generation (stack_length a)) (moves : moved ≡ moved_down (arena a.prev a.next numbers a.payload a.header)) where
-  pub shrinkable : length a.header ≡ header_words → Shrinkable moved
+-- columns that were compressed with the header k are compressed with any other h that has the same stack length
+module _ {ps ns gs vs : List ℕ} {n links room : ℕ} (can : Compressible ps ns gs vs n links room) (g : ℕ) where
+  pub any_header : {ps' ns' gs' vs' k' : List ℕ} (k h : List ℕ) → arena ps' ns' gs' vs' k' ≡ relocate (link_slots gs n) g (arena ps ns gs vs k) → get_or k 0 0 ≡ n → get_or h 0 0 ≡ n
+      → arena ps' ns' gs' vs' (compressed_header links g h) ≡ relocate (link_slots gs n) g (arena ps ns gs vs h)
+  unfolding relocate
+  any_header k h e ek eh =
+      rw (ap (λ (a : Arena). a.prev) e, ap (λ (a : Arena). a.next) e, ap (λ (a : Arena). a.generation) e, ap (λ (a : Arena). a.payload) e, ek, eh, can.counted) refl
+
+  pub any_report : (k h old : List ℕ) {new : List ℕ} → new ≡ written (moves_of (arena ps ns gs vs k) g 1 (link_slots gs n)) old → new ≡ written (moves_of (arena ps ns gs vs h) g 1 (link_slots gs n)) old
+  any_report k h old e = e ∙ ap (λ (m : List ℕ). written m old) (moves_read (arena ps ns gs vs k) (arena ps ns gs vs h) g 1 (link_slots gs n) refl)
+
+module _ (a : Arena) {room : ℕ} (can : Compressible a.prev a.next a.generation a.payload (stack_length a) (link_count a) room)
+    {ps ns numbers vs : List ℕ} (named : numbers ≡ numbered a.generation (stack_length a))
+    (moves : (ps ≡ carried (new_name numbers a.prev) numbers (stack_length a) a.prev)
+    × (ns ≡ carried (new_name numbers a.next) numbers (stack_length a) a.next)
+    × (vs ≡ carried (at a.payload) numbers (stack_length a) a.payload)) where
+  pub shrinkable : length a.header ≡ header_words → Shrinkable (arena ps ns numbers vs a.header)
   shrinkable four =
       let fits = roomy can in
-      rw (moves, named) (record { header = four; room = record { prev = fits.0; next = fits.1; generation = fits.2; payload = fits.3 }; links = fits.4 })
+      rw (moves.0, moves.1, moves.2, named) (record { header = four; room = record { prev = fits.0; next = fits.1; generation = fits.2; payload = fits.3 }; links = fits.4 })
 
   -- the columns together, once the links are moved down and stamped, and the slots behind them popped
-  pub relocated : {left : Arena} → left ≡ shrunk moved → left ≡ relocate (link_slots a.generation (stack_length a)) (current a) a
+  pub relocated : {left : Arena} → left ≡ shrunk (arena ps ns numbers vs a.header) → left ≡ relocate (link_slots a.generation (stack_length a)) (current a) a
   unfolding relocate shrunk
   relocated shrinks =
-      rw (shrinks, moves, named, renamed can a.prev can.prev, renamed can a.next can.next, payloads can, stamped can (current a), ← can.counted, shrunk_header a) refl
+      rw (shrinks, moves.0, moves.1, moves.2, named, renamed can a.prev can.prev, renamed can a.next can.next, payloads can, stamped can (current a), ← can.counted, shrunk_header a) refl

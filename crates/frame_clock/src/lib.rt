@@ -2,23 +2,34 @@
 #![tactic(auto)]
 
 ghost use Rattle.std.specs.Prelude.{◌≡◌, true, false, ◌≤◌, ◌<◌, MatchOption, MatchResult};
-ghost use Rattle.definitions.specs.Clock.{frame_dots, frame_lines, first_dot, last_dot, line_of, is_window, due};
+ghost use Rattle.definitions.specs.Clock.{first_dot, last_dot, line_of, is_window, due};
 
 use refusals::Refusal;
 
-// A dot of the frame, counted from 0 through all its lines.
+// An index below END.
 #[derive(Clone, Copy, PartialEq, Eq, PartialOrd, Ord)]
-pub struct Dot {
+pub struct Below<const END: u32> {
     pub index: u32,
-    pub ghost in_frame: { index < frame_dots },
+    pub ghost in_frame: { index < END },
 }
 
-// A line of the frame, counted from 0.
-#[derive(Clone, Copy, PartialEq, Eq, PartialOrd, Ord)]
-pub struct Line {
-    pub index: u32,
-    pub ghost in_frame: { index < frame_lines },
+impl<const END: u32> Below<END> {
+    // The one of this index, where it is below END.
+    pub fn new(index: u32) -> Option<Below<END>>
+        ensures { MatchOption result (END ≤ index) (λ it. it.index ≡ index) }
+    {
+        if index >= END {
+            return None;
+        }
+        Some(Below { index })
+    }
 }
+
+// A dot of the frame, counted from 0 through all its lines.
+pub type Dot = Below<DOTS>;
+
+// A line of the frame, counted from 0.
+pub type Line = Below<LINES>;
 
 // The ends of a line.
 #[derive(Clone, Copy, PartialEq, Eq)]
@@ -45,16 +56,6 @@ pub const DOTS_PER_LINE: u32 = 341;
 pub const DOTS: u32 = LINES * DOTS_PER_LINE;
 
 impl Line {
-    // The line of this index, where the frame has it.
-    pub fn new(index: u32) -> Option<Line>
-        ensures { MatchOption result (frame_lines ≤ index) (λ line. line.index ≡ index) }
-    {
-        if index >= LINES {
-            return None;
-        }
-        Some(Line { index })
-    }
-
     // The first dot of this line.
     pub fn first(self) -> Dot
         ensures { result.index ≡ first_dot self.index }
@@ -78,16 +79,6 @@ impl Line {
 }
 
 impl Dot {
-    // The dot of this index, where the frame has it.
-    pub fn new(index: u32) -> Option<Dot>
-        ensures { MatchOption result (frame_dots ≤ index) (λ dot. dot.index ≡ index) }
-    {
-        if index >= DOTS {
-            return None;
-        }
-        Some(Dot { index })
-    }
-
     // The line of this dot. Three dots in 1,024 are a little less than one in 341; over the whole frame that makes less than one line. So three times the
     // dot, divided by 1,024, is its line or the line before it, and the table tells which.
     #[tactic(auto, unfolding(definitions::specs::Clock::first_dot, definitions::specs::Clock::line_of))]

@@ -7,9 +7,8 @@ ghost use Rattle.lent.specs.Arenas.{arena_of};
 ghost use Rattle.insert_kinds.specs.Kinds.{kind_beside, insert_kind_of};
 ghost use Rattle.insert_places.specs.Places.{placed};
 
-use columns::slot_at;
 use insert_kinds::{Kind, LinkInsertKind};
-use insert_places::{LinkName, Place, bridge, lacks};
+use insert_places::{LinkName, Place, at_interlink, bridge, lacks, next_to, prev_to};
 use lent::ArenaRef;
 use ptr::Slot;
 
@@ -30,48 +29,33 @@ pub fn check_link_insert_kind(arena: ArenaRef<'_>, t: Slot, kind: LinkInsertKind
 }
 
 // The place beside the links that a kind names, if they are there and what else it asks holds.
-#[tactic(auto, unfolding(definitions::specs::Insert::place_of, definitions::specs::Insert::place_if))]
+#[tactic(auto, using(insert_places::proofs::Parts::beside_found), unfolding(definitions::specs::Insert::place_of, definitions::specs::Insert::place_if))]
 fn place_beside<L: LinkName>(arena: ArenaRef<'_>, kind: Kind<L>) -> Option<Place>
     ensures { (t : ℕ) → placed result ≡ place_of (arena_of arena.entry) t (kind_beside L.name kind) }
 {
     match kind {
         Kind::ChainEnd(p) => {
-            let end = p.found(arena)?;
-            lacks(arena.next, end).then_some(Place {
+            let end = lacks(arena.next, p.found(arena))?;
+            Some(Place {
                 prev: end,
                 next: Slot(0),
             })
         }
         Kind::ChainStart(p) => {
-            let start = p.found(arena)?;
-            lacks(arena.prev, start).then_some(Place {
+            let start = lacks(arena.prev, p.found(arena))?;
+            Some(Place {
                 prev: Slot(0),
                 next: start,
             })
         }
-        Kind::NextTo(p) => {
-            let s = p.found(arena)?;
-            Some(Place {
-                prev: s,
-                next: slot_at(arena.next, s),
-            })
-        }
-        Kind::PrevTo(p) => {
-            let s = p.found(arena)?;
-            Some(Place {
-                prev: slot_at(arena.prev, s),
-                next: s,
-            })
-        }
-        Kind::AtInterlink { next_to, prev_to } => {
-            let s = next_to.found(arena)?;
-            let t = prev_to.found(arena)?;
-            (slot_at(arena.next, s) == t).then_some(Place { prev: s, next: t })
-        }
+        Kind::NextTo(p) => next_to(arena.next, p.found(arena)),
+        Kind::PrevTo(p) => prev_to(arena.prev, p.found(arena)),
+        Kind::AtInterlink {
+            next_to: s,
+            prev_to: t,
+        } => at_interlink(arena.next, s.found(arena), t.found(arena)),
         Kind::Bridge { end, start } => {
-            let s = end.found(arena)?;
-            let t = start.found(arena)?;
-            bridge(arena.prev, arena.next, s, t)
+            bridge(arena.prev, arena.next, end.found(arena), start.found(arena))
         }
     }
 }

@@ -1,12 +1,11 @@
 // Places of a new link: the links that a kind names, if they are there, and between which slots the new one goes (chain/impl_chain_arena_trait.rs).
 #![tactic(auto)]
 
-ghost use Rattle.std.specs.Prelude.{◌≡◌, ◌&&◌, ◌≤◌, ◌<◌, eqb, length};
-ghost use Rattle.definitions.specs.Columns.{at};
-ghost use Rattle.definitions.specs.Insert.{Named, place_if};
+ghost use Rattle.std.specs.Prelude.{◌≡◌};
+ghost use Rattle.definitions.specs.Insert.{Named};
 ghost use Rattle.lent.specs.Arenas.{arena_of};
 ghost use Rattle.insert_kinds.specs.Kinds.{ptr_name, slot_name};
-ghost use Rattle.insert_places.specs.Places.{Found, placed};
+ghost use Rattle.insert_places.specs.Places.{Found, Stands, lacking, between_those, before_next, behind_prev, at_joint, placed};
 
 use chain_traits::{is_link, stale};
 use columns::slot_at;
@@ -54,21 +53,58 @@ pub struct Place {
     pub next: Slot,
 }
 
-// Whether the link s has no neighbour in the column.
-pub fn lacks(column: &[u32], s: Slot) -> bool
-    requires { (0 < s.0) × (s.0 ≤ length column.now) }
-    ensures { result ≡ eqb (at column.now s.0) 0 }
+// Behind a link, if it was found: between it and its next.
+pub fn next_to(next: &[u32], link: Option<Slot>) -> Option<Place>
+    requires { Stands next.now link }
+    ensures { placed result ≡ before_next next.now link }
 {
-    slot_at(column, s).0 == 0
+    let s = link?;
+    Some(Place {
+        prev: s,
+        next: slot_at(next, s),
+    })
 }
 
-// Between the links s and t, if s has no next and t no prev.
-#[tactic(auto, unfolding(definitions::specs::Insert::place_if))]
-pub fn bridge(prev: &[u32], next: &[u32], s: Slot, t: Slot) -> Option<Place>
-    requires standing { (0 < s.0) × (s.0 ≤ length next.now) }
-    requires end_stands { (0 < t.0) × (t.0 ≤ length prev.now) }
-    ensures { placed result ≡ place_if (eqb (at next.now s.0) 0 && eqb (at prev.now t.0) 0) s.0 t.0 }
+// In front of a link, if it was found: between its prev and it.
+pub fn prev_to(prev: &[u32], link: Option<Slot>) -> Option<Place>
+    requires { Stands prev.now link }
+    ensures { placed result ≡ behind_prev prev.now link }
 {
-    let fits = lacks(next, s) && lacks(prev, t);
-    fits.then_some(Place { prev: s, next: t })
+    let s = link?;
+    Some(Place {
+        prev: slot_at(prev, s),
+        next: s,
+    })
+}
+
+// Between two links, if both were found and the second is the next of the first.
+#[tactic(auto, unfolding(definitions::specs::Insert::place_if))]
+pub fn at_interlink(next: &[u32], link: Option<Slot>, other: Option<Slot>) -> Option<Place>
+    requires { Stands next.now link }
+    ensures { placed result ≡ at_joint next.now link other }
+{
+    let s = link?;
+    let t = other?;
+    (slot_at(next, s) == t).then_some(Place { prev: s, next: t })
+}
+
+// The link, if it was found and has no neighbour in the column.
+pub fn lacks(column: &[u32], link: Option<Slot>) -> Option<Slot>
+    requires { Stands column.now link }
+    ensures { result ≡ lacking column.now link }
+{
+    let s = link?;
+    (slot_at(column, s).0 == 0).then_some(s)
+}
+
+// Between two links, if both were found and the first has no next and the second no prev.
+pub fn bridge(prev: &[u32], next: &[u32], end: Option<Slot>, start: Option<Slot>) -> Option<Place>
+    requires end_stands { Stands next.now end }
+    requires start_stands { Stands prev.now start }
+    ensures { placed result ≡ between_those (lacking next.now end) (lacking prev.now start) }
+{
+    Some(Place {
+        prev: lacks(next, end)?,
+        next: lacks(prev, start)?,
+    })
 }

@@ -1,5 +1,5 @@
 -- What the two passes over the sides of rule 11 read and answer. The pass over the prev sides looks at no next side: where every prev side is fine, so is every next side
--- exactly if as many links have a next as have a prev. And it asks no prev whether it is a link: no free slot leads to one. Assumes nothing.
+-- exactly if as many links have a next as have a prev. And where no free slot leads to a link it asks no prev whether it is one. Assumes nothing.
 use Prim.Native.Nat.{ℕ, suc, ◌+◌, ◌-◌, ◌≤◌, ◌<◌}
 use mathlib.Core.Path.{◌≡◌, refl, sym, ap, ◌∙◌}
 use mathlib.Core.Logic.{◌↔◌}
@@ -16,12 +16,12 @@ use Rattle.definitions.specs.Arena.{allocated}
 use Rattle.definitions.specs.Check.{names_back, broken_slots}
 use Rattle.definitions.proofs.Tests.{by_test, not_eq, both, both_first, both_second, not_first, not_second, the_first, the_second}
 use Rattle.definitions.proofs.Columns.{at_suc, at_place}
-use Rattle.definitions.proofs.Slots.{allocated_within, allocated_yes, allocated_free, length_slots, keep_more, keep_same, keep_parts}
+use Rattle.definitions.proofs.Slots.{allocated_within, allocated_live, allocated_yes, allocated_free, length_slots, keep_more, keep_same, keep_parts}
 use Rattle.definitions.proofs.Interlinks.{names_back_lem, does_name_back}
 use Rattle.definitions.proofs.Broken.{first_is, none_first}
 use Rattle.std.specs.Prelude.{Option, None, Some}
 use Rattle.std.specs.Option.{option_or}
-use Rattle.interlinks.specs.Sides.{FreeStaysFree, leads_to, side_fine, SidesFine, PrevEnd, NextEnd, NextSides, Finds}
+use Rattle.interlinks.specs.Sides.{FreeStaysFree, leads_to, side_fine, SidesFine, PrevEnd, NextSides, Finds}
 use Rattle.interlinks.proofs.Sides.{fine_both, prev_broken, next_broken, has, number, has_yes, other_side, as_many_sides}
 
 -- ---- a slot, as the code reads it one place lower
@@ -35,6 +35,23 @@ module _ (col : List ℕ) (n s x : ℕ) where
   pub leads_read : 0 < s → s ≤ n → eqb (get_or col (s - 1) 0) x ≡ leads_to col n s x
   unfolding leads_to
   leads_read p h = rw (at_place col s (λ z. omega arith), le-leb s n h) refl
+
+-- where no free slot leads to a link, a slot that leads to one is no free one
+pub leads_names : (ns gs : List ℕ) (n s x : ℕ) → FreeStaysFree ns gs n → 0 < s → allocated gs n x ≡ true → leads_to ns n s x ≡ names_back ns gs n x s
+unfolding leads_to
+leads_names ns gs n s x stays p link =
+    by_test (leb s n && eqb (at ns s) x)
+    (λ e.
+    let within : s ≤ n = leb-true _ _ (both_first _ _ e) in
+    let to : at ns s ≡ x = eqb-true _ _ (both_second (leb s n) _ e) in
+    let live : at gs s ≡ 0 → ⊥ = λ z. allocated_live gs n x link (rw to at (stays s p within z)) in
+    e ∙ sym (does_name_back ns gs n x s (λ some. (allocated_yes gs n s within live, to))))
+    (λ e. e ∙ sym (by_test (names_back ns gs n x s) (λ t. absurd (true≢false (sym (led t) ∙ e))) (λ f. f)))
+  where
+    led : names_back ns gs n x s ≡ true → (leb s n && eqb (at ns s) x) ≡ true
+    led t =
+        let there = names_back_lem ns gs n x s t (λ z. omega arith) in
+        both (leb s n) (eqb (at ns s) x) (le-leb _ _ (allocated_within gs n s there.0)) (eq-eqb _ _ there.1)
 
 -- those of `next_fine`, at place x - 1
 module _ (forth back gs : List ℕ) (n x : ℕ) (p : 0 < x) where
@@ -86,30 +103,11 @@ module _ (ps ns gs : List ℕ) (n i : ℕ) where
   side_without : get_or ps i 0 ≡ 0 → side_fine ps ns gs n (i + 1) ≡ true
   side_without z = sym (side_none ps ns gs n (i + 1) (omega arith) (rw here z))
 
-  -- a slot that leads to a link is no free one
-  side_led : FreeStaysFree ns gs n → i < n → (get_or gs i 0 ≡ 0 → ⊥) → (get_or ps i 0 ≡ 0 → ⊥) → leads_to ns n (get_or ps i 0) (i + 1) ≡ true → side_fine ps ns gs n (i + 1) ≡ true
-  unfolding side_fine leads_to
-  side_led stays h g d e =
-      let p = get_or ps i 0 in
-      let within : p ≤ n = leb-true _ _ (both_first _ _ e) in
-      let to : at ns p ≡ i + 1 = eqb-true _ _ (both_second (leb p n) _ e) in
-      let live : at gs p ≡ 0 → ⊥ = λ z. g (sym (at_suc gs i) ∙ ap (at gs) (sym (add-one i) ∙ sym to) ∙ stays p (omega arith) within z) in
-      rw add-one (the_second (not (allocated gs n (suc i))) _ (does_name_back ns gs n (suc i) (at ps (suc i)) (λ some. rw at_suc (allocated_yes gs n p within live, to ∙ add-one i))))
+  side_link : i < n → (get_or gs i 0 ≡ 0 → ⊥) → names_back ns gs n (i + 1) (get_or ps i 0) ≡ side_fine ps ns gs n (i + 1)
+  side_link h g = rw here at (side_named ps ns gs n (i + 1) (omega arith) (omega arith) (rw here g))
 
-  side_not_led : i < n → (get_or gs i 0 ≡ 0 → ⊥) → (get_or ps i 0 ≡ 0 → ⊥) → leads_to ns n (get_or ps i 0) (i + 1) ≡ false → side_fine ps ns gs n (i + 1) ≡ false
-  unfolding side_fine leads_to
-  side_not_led h g d e =
-      by_test (side_fine ps ns gs n (i + 1))
-      (λ t. absurd (true≢false (sym (led_to t) ∙ e)))
-      (λ f. f)
-    where
-      led_to : side_fine ps ns gs n (i + 1) ≡ true → (leb (get_or ps i 0) n && eqb (at ns (get_or ps i 0)) (i + 1)) ≡ true
-      led_to t =
-          let l : allocated gs n (suc i) ≡ true = allocated_yes gs n (suc i) h (rw at_suc g) in
-          let t' : side_fine ps ns gs n (suc i) ≡ true = rw add-one at t in
-          let named : names_back ns gs n (suc i) (at ps (suc i)) ≡ true = rw l at t' in
-          let there = names_back_lem ns gs n (suc i) (at ps (suc i)) named (rw at_suc d) in
-          rw at_suc at (both (leb (at ps (suc i)) n) (eqb (at ns (at ps (suc i))) (i + 1)) (le-leb _ _ (allocated_within gs n _ there.0)) (eq-eqb _ _ (there.1 ∙ sym (add-one i))))
+  pub link_here : i < n → (get_or gs i 0 ≡ 0 → ⊥) → allocated gs n (i + 1) ≡ true
+  link_here h g = rw add-one (allocated_yes gs n (suc i) h (rw at_suc g))
 
 -- where the side is fine at slot k too, one slot more
 pub sides_more : (forth back gs : List ℕ) (n k : ℕ) → SidesFine forth back gs n k → side_fine forth back gs n k ≡ true → SidesFine forth back gs n (k + 1)
@@ -141,7 +139,7 @@ going_free {ps} {ns} {gs} {n} {nexts} {prevs} {i} going h g = record {
   fine = sides_more ps ns gs n (i + 1) going.fine (side_free ps ns gs n i g);
 }
 
--- a link, with a next or without, and with a prev that leads to it or without
+-- a link, with a next or without, and with a prev that names it or without
 module _ {ps ns gs : List ℕ} {n nexts prevs i : ℕ} (going : Going ps ns gs n nexts prevs i) (h : i < n) (g : get_or gs i 0 ≡ 0 → ⊥) where
   more_nexts : (get_or ns i 0 ≡ 0 → ⊥) → nexts + 1 ≡ number gs n ns (i + 1)
   more_nexts d = ap (λ (k : ℕ). k + 1) going.nexts_so_far ∙ sym (number_with gs n ns i h g d)
@@ -157,12 +155,12 @@ module _ {ps ns gs : List ℕ} {n nexts prevs i : ℕ} (going : Going ps ns gs n
     fine = sides_more ps ns gs n (i + 1) going.fine (side_without ps ns gs n i z);
   }
 
-  with_prev : (more : ℕ) → more ≡ number gs n ns (i + 1) → FreeStaysFree ns gs n → (get_or ps i 0 ≡ 0 → ⊥) → leads_to ns n (get_or ps i 0) (i + 1) ≡ true → Going ps ns gs n more (prevs + 1) (i + 1)
-  with_prev more counted stays d e = record {
+  with_prev : (more : ℕ) → more ≡ number gs n ns (i + 1) → (get_or ps i 0 ≡ 0 → ⊥) → names_back ns gs n (i + 1) (get_or ps i 0) ≡ true → Going ps ns gs n more (prevs + 1) (i + 1)
+  with_prev more counted d e = record {
     within = omega arith;
     nexts_so_far = counted;
     prevs_so_far = ap (λ (k : ℕ). k + 1) going.prevs_so_far ∙ sym (number_with gs n ps i h g d);
-    fine = sides_more ps ns gs n (i + 1) going.fine (side_led ps ns gs n i stays h g d e);
+    fine = sides_more ps ns gs n (i + 1) going.fine (sym (side_link ps ns gs n i h g) ∙ e);
   }
 
   pub going_start : get_or ps i 0 ≡ 0 → (get_or ns i 0 ≡ 0 → ⊥) → Going ps ns gs n (nexts + 1) prevs (i + 1)
@@ -171,23 +169,23 @@ module _ {ps ns gs : List ℕ} {n nexts prevs i : ℕ} (going : Going ps ns gs n
   pub going_alone : get_or ps i 0 ≡ 0 → get_or ns i 0 ≡ 0 → Going ps ns gs n nexts prevs (i + 1)
   going_alone z e = without_prev _ (same_nexts e) z
 
-  module _ (stays : FreeStaysFree ns gs n) (some : get_or ps i 0 ≡ 0 → ⊥) (led : leads_to ns n (get_or ps i 0) (i + 1) ≡ true) where
+  module _ (some : get_or ps i 0 ≡ 0 → ⊥) (named : names_back ns gs n (i + 1) (get_or ps i 0) ≡ true) where
     pub going_middle : (get_or ns i 0 ≡ 0 → ⊥) → Going ps ns gs n (nexts + 1) (prevs + 1) (i + 1)
-    going_middle d = with_prev _ (more_nexts d) stays some led
+    going_middle d = with_prev _ (more_nexts d) some named
 
     pub going_end : get_or ns i 0 ≡ 0 → Going ps ns gs n nexts (prevs + 1) (i + 1)
-    going_end e = with_prev _ (same_nexts e) stays some led
+    going_end e = with_prev _ (same_nexts e) some named
 
 -- ---- what the passes answer
 
 module _ (ps ns gs : List ℕ) (n : ℕ) where
   -- the prev side fails at slot i + 1 and at none before it
-  pub prev_stopped : {nexts prevs i : ℕ} → Going ps ns gs n nexts prevs i → i < n → (get_or gs i 0 ≡ 0 → ⊥) → (get_or ps i 0 ≡ 0 → ⊥) → leads_to ns n (get_or ps i 0) (i + 1) ≡ false → PrevEnd ps ns gs n (i + 1)
-  prev_stopped {nexts} {prevs} {i} going h g d e = record {
+  pub prev_stopped : {nexts prevs i : ℕ} → Going ps ns gs n nexts prevs i → i < n → (get_or gs i 0 ≡ 0 → ⊥) → names_back ns gs n (i + 1) (get_or ps i 0) ≡ false → PrevEnd ps ns gs n (i + 1)
+  prev_stopped {nexts} {prevs} {i} going h g e = record {
     some = omega arith;
     within = omega arith;
     lower = going.fine;
-    fails = λ l. side_not_led ps ns gs n i h g d e;
+    fails = λ l. sym (side_link ps ns gs n i h g) ∙ e;
     other = λ l. absurd (omega arith);
   }
 
@@ -219,15 +217,15 @@ module _ (ps ns gs : List ℕ) (n : ℕ) where
   passes_none sides = none_first ps ns gs n (λ x p h. fine_both ps ns gs n x (sides.0 x p (omega arith)) (sides.1 x p (omega arith)))
 
   module _ (m : ℕ) (s : PrevEnd ps ns gs n m) where
-    passes_next : (r : ℕ) → NextEnd ps ns gs n m r → Finds n (first_or 0 (broken_slots ps ns gs n)) (Some r)
-    passes_next r t = (sym first, t.some, omega (arith, t.within, s.within))
+    passes_next : (r : ℕ) → NextSides ps ns gs n m (Some r) → Finds n (first_or 0 (broken_slots ps ns gs n)) (Some r)
+    passes_next r t = (sym first, t.0, omega (arith, t.1, s.within))
       where
         first : first_or 0 (broken_slots ps ns gs n) ≡ r
         first = first_is ps ns gs n r (record {
-          some = t.some;
-          within = omega (arith, t.within, s.within);
-          fails = next_broken ps ns gs n r t.fails;
-          lower = λ y p h. fine_both ps ns gs n y (s.lower y p (omega (arith, t.within))) (t.lower y p h);
+          some = t.0;
+          within = omega (arith, t.1, s.within);
+          fails = next_broken ps ns gs n r t.2;
+          lower = λ y p h. fine_both ps ns gs n y (s.lower y p (omega (arith, t.1))) (t.3 y p h);
         })
 
     passes_prev : SidesFine ns ps gs n m → Finds n (first_or 0 (broken_slots ps ns gs n)) (Some m)
@@ -254,4 +252,4 @@ pub ruleset leading = (leads_past, leads_read)
 
 pub ruleset ends = (passes_none, passes_first)
 
-pub ruleset going_on = (going_none, nexts_most, prevs_most, going_free, going_start, going_alone, going_middle, going_end, prev_stopped, prev_passed, prev_passed_alone)
+pub ruleset going_on = (link_here, going_none, nexts_most, prevs_most, going_free, going_start, going_alone, going_middle, going_end, prev_stopped, prev_passed, prev_passed_alone)

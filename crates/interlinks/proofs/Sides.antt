@@ -29,7 +29,7 @@ sides_tests true p q = refl
 sides_tests false p q = refl
 
 module _ (ps ns gs : List ℕ) (n x : ℕ) where
-  fine_sides : neighbours_fine ps ns gs n x ≡ (side_fine ps ns gs n x && side_fine ns ps gs n x)
+  pub fine_sides : neighbours_fine ps ns gs n x ≡ (side_fine ps ns gs n x && side_fine ns ps gs n x)
   unfolding neighbours_fine side_fine
   fine_sides = sides_tests (allocated gs n x) (names_back ns gs n x (at ps x)) (names_back ps gs n x (at ns x))
 

@@ -1,6 +1,6 @@
 -- Rule 11 on one side of a slot, and what the two passes over the sides answer. A side is told by its columns: forth, which names the neighbour, and
 -- back, in which the neighbour must name the slot; prev and next for the prev side, next and prev for the next side.
-use Rattle.std.specs.Prelude.{ℕ, ◌+◌, ◌≤◌, ◌<◌, ◌≡◌, Bool, true, false, not, ◌&&◌, ◌||◌, List, eqb, leb, Option, None, Some}
+use Rattle.std.specs.Prelude.{ℕ, ◌+◌, ◌≤◌, ◌<◌, ◌≡◌, Bool, true, false, not, ◌&&◌, ◌||◌, List, eqb, leb, Option, None, Some, MatchOption}
 use Rattle.definitions.specs.Columns.{at}
 use Rattle.definitions.specs.Arena.{allocated}
 use Rattle.definitions.specs.Check.{names_back}
@@ -34,17 +34,9 @@ abbrev pub PrevSides : List ℕ → List ℕ → List ℕ → ℕ → Option ℕ
 PrevSides ps ns gs n None = SidesFine ps ns gs n (n + 1) × SidesFine ns ps gs n (n + 1)
 PrevSides ps ns gs n (Some r) = PrevEnd ps ns gs n r
 
--- r is the lowest slot below m whose next side fails
-pub record NextEnd (ps ns gs : List ℕ) (n m r : ℕ) : Type 0 where
-  pub some : 0 < r
-  pub within : r < m
-  pub lower : SidesFine ns ps gs n r
-  pub fails : side_fine ns ps gs n r ≡ false
-
 -- the answer of the pass over the next sides below slot m: the lowest slot whose next side fails, or none
 abbrev pub NextSides : List ℕ → List ℕ → List ℕ → ℕ → ℕ → Option ℕ → Type 0
-NextSides ps ns gs n m None = SidesFine ns ps gs n m
-NextSides ps ns gs n m (Some r) = NextEnd ps ns gs n m r
+NextSides ps ns gs n m r = MatchOption r (SidesFine ns ps gs n m) (λ x. (0 < x) × (x < m) × (side_fine ns ps gs n x ≡ false) × SidesFine ns ps gs n x)
 
 -- the answer is slot k, one of n, or none where k is 0
 abbrev pub Finds : ℕ → ℕ → Option ℕ → Type 0

@@ -6,7 +6,8 @@ ghost use Rattle.definitions.specs.Arena.{Arena, capacity_limit, largest_generat
 ghost use Rattle.definitions.specs.Calls.{DueCount, DueEvents, reply_to};
 ghost use Rattle.ptr.specs.Pointers.{pointer_of};
 ghost use Rattle.lent.specs.Arenas.{lent_of};
-ghost use Rattle.chain_due.specs.Due.{due_reply};
+ghost use Rattle.refusals.specs.Refusal.{result_reply};
+ghost use Rattle.chain_due.specs.Due.{count_words};
 ghost use Rattle.answers.specs.Answered.{replied, Answered};
 
 use answers::Answer;
@@ -18,7 +19,7 @@ use refusals::Refusal;
 
 // How many links of a chain are due.
 #[repr(C)]
-#[derive(Clone, Copy)]
+#[derive(Clone, Copy, Default)]
 pub struct DueResult {
     pub answer: Answer,
     pub count: u32,
@@ -26,17 +27,17 @@ pub struct DueResult {
 
 // How many are due, or the refusal.
 impl From<Result<u32, Refusal>> for DueResult {
-    ghost from_gives = { λ due told. (a : Arena) (l : List ℕ) → replied told.answer (told.count ∷ []) a l ≡ due_reply due a l };
+    ghost from_gives = { λ due told. (a : Arena) (l : List ℕ) → replied told.answer (told.count ∷ []) a l ≡ result_reply count_words 1 due a l };
 
     fn from(due: Result<u32, Refusal>) -> DueResult {
         match due {
             Ok(count) => DueResult {
-                answer: Answer::of(0),
+                answer: Answer::DONE,
                 count,
             },
             Err(refusal) => DueResult {
                 answer: Answer::from(refusal),
-                count: 0,
+                ..DueResult::default()
             },
         }
     }
@@ -52,7 +53,7 @@ pub fn chain_arena_due_count(arena: LentArena<'_>, p: Ptr, from: u32, to: u32) -
 // The same, or why the call is refused.
 #[tactic(auto, using(answers::proofs::Exports::replies_refused, answers::proofs::Exports::replies_passed), unfolding(definitions::specs::Calls::accepted))]
 fn counted(arena: LentArena<'_>, p: Ptr, from: u32, to: u32) -> Result<u32, Refusal>
-    ensures { due_reply result (lent_of arena.entry) []
+    ensures { result_reply count_words 1 result (lent_of arena.entry) []
         ≡ reply_to capacity_limit largest_generation (DueCount (pointer_of p) from to) (lent_of arena.entry) [] }
 {
     due_count(check(arena)?, p, from, to)
@@ -81,7 +82,7 @@ fn reported(
     to: u32,
     report: &mut [u32],
 ) -> Result<u32, Refusal>
-    ensures { due_reply result (lent_of arena.entry) report.new
+    ensures { result_reply count_words 1 result (lent_of arena.entry) report.new
         ≡ reply_to capacity_limit largest_generation (DueEvents (pointer_of p) from to) (lent_of arena.entry) report.old }
 {
     due_events(check(arena)?, p, from, to, report)

@@ -9,7 +9,7 @@ use refusals::Refusal;
 
 // The line of a dot.
 #[repr(C)]
-#[derive(Clone, Copy)]
+#[derive(Clone, Copy, Default)]
 pub struct LineResult {
     pub number: u32,
     pub line: u32,
@@ -17,7 +17,7 @@ pub struct LineResult {
 
 // The first and the last dot of a line.
 #[repr(C)]
-#[derive(Clone, Copy)]
+#[derive(Clone, Copy, Default)]
 pub struct LineDotsResult {
     pub number: u32,
     pub first: u32,
@@ -36,7 +36,7 @@ pub fn chain_arena_line_of_dot(dot: u32) -> LineResult
         },
         None => LineResult {
             number: Refusal::OutOfFrame.number(),
-            line: 0,
+            ..LineResult::default()
         },
     }
 }
@@ -57,8 +57,7 @@ pub fn chain_arena_line_dots(line: u32) -> LineDotsResult
         }
         None => LineDotsResult {
             number: Refusal::OutOfFrame.number(),
-            first: 0,
-            last: 0,
+            ..LineDotsResult::default()
         },
     }
 }

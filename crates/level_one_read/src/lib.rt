@@ -9,7 +9,8 @@ ghost use Rattle.links.specs.Links.{no_gen_words};
 ghost use Rattle.lent.specs.Arenas.{lent_of};
 ghost use Rattle.chain_traits.specs.Read.{gen_words};
 ghost use Rattle.answers.specs.Answered.{replied, Answered};
-ghost use Rattle.level_one_read.specs.Results.{result_reply, yes_words};
+ghost use Rattle.refusals.specs.Refusal.{result_reply};
+ghost use Rattle.level_one_read.specs.Results.{yes_words};
 
 use answers::{Answer, LinkNoGenResult, checked};
 use chain_arena::check;
@@ -21,7 +22,7 @@ use refusals::Refusal;
 
 // A link with its neighbours' generations; slot 0 and generation 0 where there is no neighbour.
 #[repr(C)]
-#[derive(Clone, Copy)]
+#[derive(Clone, Copy, Default)]
 pub struct LinkResult {
     pub answer: Answer,
     pub prev: u32,
@@ -38,7 +39,7 @@ impl From<Result<Link, Refusal>> for LinkResult {
     fn from(read: Result<Link, Refusal>) -> LinkResult {
         match read {
             Ok(l) => LinkResult {
-                answer: Answer::of(0),
+                answer: Answer::DONE,
                 prev: l.prev.inx.0,
                 prev_generation: l.prev.generation.0,
                 next: l.next.inx.0,
@@ -47,11 +48,7 @@ impl From<Result<Link, Refusal>> for LinkResult {
             },
             Err(refusal) => LinkResult {
                 answer: Answer::from(refusal),
-                prev: 0,
-                prev_generation: 0,
-                next: 0,
-                next_generation: 0,
-                payload: 0,
+                ..LinkResult::default()
             },
         }
     }
@@ -59,7 +56,7 @@ impl From<Result<Link, Refusal>> for LinkResult {
 
 // Whether two links are neighbours: 1 or 0.
 #[repr(C)]
-#[derive(Clone, Copy)]
+#[derive(Clone, Copy, Default)]
 pub struct NeighborsResult {
     pub answer: Answer,
     pub yes: u32,
@@ -72,34 +69,14 @@ impl From<Result<bool, Refusal>> for NeighborsResult {
     fn from(read: Result<bool, Refusal>) -> NeighborsResult {
         match read {
             Ok(yes) => NeighborsResult {
-                answer: Answer::of(0),
+                answer: Answer::DONE,
                 yes: yes as u32,
             },
             Err(refusal) => NeighborsResult {
                 answer: Answer::from(refusal),
-                yes: 0,
+                ..NeighborsResult::default()
             },
         }
-    }
-}
-
-// The link that was read, or the refusal.
-fn link_no_gen_result(read: Result<LinkNoGen, Refusal>) -> LinkNoGenResult
-    ensures { (b : Arena) (l : List ℕ) → replied result.answer (result.prev ∷ result.next ∷ result.payload ∷ []) b l ≡ result_reply no_gen_words 3 read b l }
-{
-    match read {
-        Ok(l) => LinkNoGenResult {
-            answer: Answer::of(0),
-            prev: l.prev.0,
-            next: l.next.0,
-            payload: l.t,
-        },
-        Err(refusal) => LinkNoGenResult {
-            answer: Answer::from(refusal),
-            prev: 0,
-            next: 0,
-            payload: 0,
-        },
     }
 }
 
@@ -131,7 +108,7 @@ fn link_at(arena: LentArena<'_>, p: Ptr) -> Result<Link, Refusal>
 pub fn chain_arena_get_link_no_gen(arena: LentArena<'_>, p: Ptr) -> LinkNoGenResult
     ensures { Answered (GetLinkNoGen (pointer_of p)) (lent_of arena.entry) [] result.answer (result.prev ∷ result.next ∷ result.payload ∷ []) (lent_of arena.entry) [] }
 {
-    link_no_gen_result(link_no_gen_at(arena, p))
+    LinkNoGenResult::from(link_no_gen_at(arena, p))
 }
 
 // The same, or why the call is refused.

@@ -7,7 +7,8 @@ ghost use Rattle.definitions.specs.Walk.{state_words};
 ghost use Rattle.definitions.specs.Calls.{WalkStart, WalkStep, reply_to};
 ghost use Rattle.ptr.specs.Pointers.{pointer_of};
 ghost use Rattle.lent.specs.Arenas.{lent_of};
-ghost use Rattle.chain_iterators.specs.Walk.{walk_of, start_reply};
+ghost use Rattle.refusals.specs.Refusal.{result_reply};
+ghost use Rattle.chain_iterators.specs.Walk.{walk_of, walk_words};
 ghost use Rattle.answers.specs.Answered.{replied, Answered};
 ghost use Rattle.level_one_walk.specs.Results.{step_reply};
 
@@ -20,7 +21,7 @@ use refusals::Refusal;
 
 // The state of a walk that has begun.
 #[repr(C)]
-#[derive(Clone, Copy)]
+#[derive(Clone, Copy, Default)]
 pub struct WalkResult {
     pub answer: Answer,
     pub start: u32,
@@ -31,12 +32,12 @@ pub struct WalkResult {
 
 // The walk, or the refusal.
 impl From<Result<ChainPtrAdvancer, Refusal>> for WalkResult {
-    ghost from_gives = { λ r a. (b : Arena) (l : List ℕ) → replied a.answer (a.start ∷ a.position ∷ a.direction ∷ a.left ∷ []) b l ≡ start_reply r b l };
+    ghost from_gives = { λ r a. (b : Arena) (l : List ℕ) → replied a.answer (a.start ∷ a.position ∷ a.direction ∷ a.left ∷ []) b l ≡ result_reply walk_words 4 r b l };
 
     fn from(started: Result<ChainPtrAdvancer, Refusal>) -> WalkResult {
         match started {
             Ok(walk) => WalkResult {
-                answer: Answer::of(0),
+                answer: Answer::DONE,
                 start: walk.init.0,
                 position: walk.ptr.0,
                 direction: walk.switch,
@@ -44,10 +45,7 @@ impl From<Result<ChainPtrAdvancer, Refusal>> for WalkResult {
             },
             Err(refusal) => WalkResult {
                 answer: Answer::from(refusal),
-                start: 0,
-                position: 0,
-                direction: 0,
-                left: 0,
+                ..WalkResult::default()
             },
         }
     }
@@ -73,8 +71,8 @@ impl StepResult {
             ≡ step_reply stepped walk a }
     {
         let (answer, p) = match stepped {
-            Ok(Some(p)) => (Answer::of(0), p),
-            Ok(None) => (Answer::of(0), Ptr::new(0, 0)),
+            Ok(Some(p)) => (Answer::DONE, p),
+            Ok(None) => (Answer::DONE, Ptr::new(0, 0)),
             Err(refusal) => (Answer::from(refusal), Ptr::new(0, 0)),
         };
         StepResult {
@@ -99,7 +97,7 @@ pub fn chain_arena_walk_start(arena: LentArena<'_>, p: Ptr) -> WalkResult
 // The same, or why the call is refused.
 #[tactic(auto, using(answers::proofs::Exports::replies_refused, answers::proofs::Exports::replies_passed), unfolding(definitions::specs::Calls::accepted))]
 fn walk_from(arena: LentArena<'_>, p: Ptr) -> Result<ChainPtrAdvancer, Refusal>
-    ensures { start_reply result (lent_of arena.entry) []
+    ensures { result_reply walk_words 4 result (lent_of arena.entry) []
         ≡ reply_to capacity_limit largest_generation (WalkStart (pointer_of p)) (lent_of arena.entry) [] }
 {
     advancer_chain(check(arena)?.arena(), p)

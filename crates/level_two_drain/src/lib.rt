@@ -6,7 +6,8 @@ ghost use Rattle.definitions.specs.Arena.{Arena, capacity_limit, largest_generat
 ghost use Rattle.definitions.specs.Calls.{Drain, reply_to};
 ghost use Rattle.lent.specs.Arenas.{held_in, SameBuffers};
 ghost use Rattle.ptr.specs.Pointers.{pointer_of};
-ghost use Rattle.chain_drain.specs.Drained.{drain_reply};
+ghost use Rattle.refusals.specs.Refusal.{result_reply};
+ghost use Rattle.chain_drain.specs.Drained.{drained_words};
 ghost use Rattle.answers.specs.Answered.{replied, Answered};
 
 use answers::Answer;
@@ -18,7 +19,7 @@ use refusals::Refusal;
 
 // A drain's answer: how many links were removed, and which one of them, counted from 1, made the generation overflow, 0 if none did.
 #[repr(C)]
-#[derive(Clone, Copy)]
+#[derive(Clone, Copy, Default)]
 pub struct DrainResult {
     pub answer: Answer,
     pub items: u32,
@@ -27,19 +28,18 @@ pub struct DrainResult {
 
 // What the host is told of a drain.
 impl From<Result<Drained, Refusal>> for DrainResult {
-    ghost from_gives = { λ r s. (a : Arena) (l : List ℕ) → replied s.answer (s.items ∷ s.overflowed ∷ []) a l ≡ drain_reply r a l };
+    ghost from_gives = { λ r s. (a : Arena) (l : List ℕ) → replied s.answer (s.items ∷ s.overflowed ∷ []) a l ≡ result_reply drained_words 2 r a l };
 
     fn from(drained: Result<Drained, Refusal>) -> DrainResult {
         match drained {
             Ok(d) => DrainResult {
-                answer: Answer::of(0),
+                answer: Answer::DONE,
                 items: d.items,
                 overflowed: d.overflowed.unwrap_or(0),
             },
             Err(refusal) => DrainResult {
                 answer: Answer::from(refusal),
-                items: 0,
-                overflowed: 0,
+                ..DrainResult::default()
             },
         }
     }
@@ -48,7 +48,7 @@ impl From<Result<Drained, Refusal>> for DrainResult {
 // The drain, in an arena that passes the check.
 fn checked_drain(arena: &mut ArenaMut<'_>, p: Ptr, report: &mut [u32]) -> Result<Drained, Refusal>
     ensures lent { SameBuffers arena.old arena.new }
-    ensures replied { drain_reply result (held_in arena.new) report.new
+    ensures replied { result_reply drained_words 2 result (held_in arena.new) report.new
         ≡ reply_to capacity_limit largest_generation (Drain (pointer_of p)) (held_in arena.old) report.old }
 {
     check(arena.lent())?;

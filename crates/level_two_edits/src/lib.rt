@@ -6,7 +6,7 @@ ghost use Rattle.definitions.specs.Arena.{capacity_limit, largest_generation};
 ghost use Rattle.definitions.specs.Calls.{Connect, BreakPrev, BreakNext, ExchangeNext, reply_to};
 ghost use Rattle.lent.specs.Arenas.{links_of, SameLinks};
 ghost use Rattle.ptr.specs.Pointers.{pointer_of};
-ghost use Rattle.chain_edits.specs.Edits.{edited_reply};
+ghost use Rattle.refusals.specs.Refusal.{no_words, result_reply};
 ghost use Rattle.answers.specs.Answered.{Answered};
 
 use answers::Answer;
@@ -19,7 +19,7 @@ use refusals::Refusal;
 // The connection, of an arena that passes the check.
 fn checked_connect(arena: &mut LinksMut<'_>, p_prev: Ptr, p_next: Ptr) -> Result<(), Refusal>
     ensures lent { SameLinks arena.old arena.new }
-    ensures replied { edited_reply result (links_of arena.new) ≡ reply_to capacity_limit largest_generation (Connect (pointer_of p_prev) (pointer_of p_next)) (links_of arena.old) [] }
+    ensures replied { result_reply no_words 0 result (links_of arena.new) [] ≡ reply_to capacity_limit largest_generation (Connect (pointer_of p_prev) (pointer_of p_next)) (links_of arena.old) [] }
 {
     check(arena.lent())?;
     connect(arena, p_prev, p_next)
@@ -36,7 +36,7 @@ pub fn chain_arena_connect(arena: &mut LinksMut<'_>, p_prev: Ptr, p_next: Ptr) -
 // The break before p, of an arena that passes the check.
 fn checked_break_prev(arena: &mut LinksMut<'_>, p: Ptr) -> Result<(), Refusal>
     ensures lent { SameLinks arena.old arena.new }
-    ensures replied { edited_reply result (links_of arena.new) ≡ reply_to capacity_limit largest_generation (BreakPrev (pointer_of p)) (links_of arena.old) [] }
+    ensures replied { result_reply no_words 0 result (links_of arena.new) [] ≡ reply_to capacity_limit largest_generation (BreakPrev (pointer_of p)) (links_of arena.old) [] }
 {
     check(arena.lent())?;
     break_prev(arena, p)
@@ -53,7 +53,7 @@ pub fn chain_arena_break_prev(arena: &mut LinksMut<'_>, p: Ptr) -> Answer
 // The break behind p, of an arena that passes the check.
 fn checked_break_next(arena: &mut LinksMut<'_>, p: Ptr) -> Result<(), Refusal>
     ensures lent { SameLinks arena.old arena.new }
-    ensures replied { edited_reply result (links_of arena.new) ≡ reply_to capacity_limit largest_generation (BreakNext (pointer_of p)) (links_of arena.old) [] }
+    ensures replied { result_reply no_words 0 result (links_of arena.new) [] ≡ reply_to capacity_limit largest_generation (BreakNext (pointer_of p)) (links_of arena.old) [] }
 {
     check(arena.lent())?;
     break_next(arena, p)
@@ -70,7 +70,7 @@ pub fn chain_arena_break_next(arena: &mut LinksMut<'_>, p: Ptr) -> Answer
 // The exchange, of an arena that passes the check.
 fn checked_exchange_next(arena: &mut LinksMut<'_>, p0: Ptr, p1: Ptr) -> Result<(), Refusal>
     ensures lent { SameLinks arena.old arena.new }
-    ensures replied { edited_reply result (links_of arena.new) ≡ reply_to capacity_limit largest_generation (ExchangeNext (pointer_of p0) (pointer_of p1)) (links_of arena.old) [] }
+    ensures replied { result_reply no_words 0 result (links_of arena.new) [] ≡ reply_to capacity_limit largest_generation (ExchangeNext (pointer_of p0) (pointer_of p1)) (links_of arena.old) [] }
 {
     check(arena.lent())?;
     exchange_next(arena, p0, p1)

@@ -5,8 +5,8 @@ ghost use Rattle.std.specs.Prelude.{◌≡◌, List, [], ◌∷◌, ℕ};
 ghost use Rattle.definitions.specs.Arena.{Arena, capacity_limit, largest_generation};
 ghost use Rattle.definitions.specs.Calls.{Insert, reply_to};
 ghost use Rattle.lent.specs.Arenas.{held_in, SameBuffers};
-ghost use Rattle.ptr.specs.Pointers.{pointer_of};
-ghost use Rattle.chain_insertion.specs.Inserted.{inserted_reply};
+ghost use Rattle.ptr.specs.Pointers.{pointer_of, pointer_words};
+ghost use Rattle.refusals.specs.Refusal.{result_reply};
 ghost use Rattle.answers.specs.Answered.{replied, Answered};
 
 use answers::Answer;
@@ -18,7 +18,7 @@ use refusals::Refusal;
 
 // The pointer of a link that was inserted; slot 0 and generation 0 where none was.
 #[repr(C)]
-#[derive(Clone, Copy)]
+#[derive(Clone, Copy, Default)]
 pub struct InsertResult {
     pub answer: Answer,
     pub slot: u32,
@@ -27,29 +27,28 @@ pub struct InsertResult {
 
 // What the host is told of an insertion.
 impl From<Result<Ptr, Refusal>> for InsertResult {
-    ghost from_gives = { λ r s. (a : Arena) (l : List ℕ) → replied s.answer (s.slot ∷ s.generation ∷ []) a l ≡ inserted_reply r a l };
+    ghost from_gives = { λ r s. (a : Arena) (l : List ℕ) → replied s.answer (s.slot ∷ s.generation ∷ []) a l ≡ result_reply pointer_words 2 r a l };
 
     fn from(inserted: Result<Ptr, Refusal>) -> InsertResult {
         match inserted {
             Ok(p) => InsertResult {
-                answer: Answer::of(0),
+                answer: Answer::DONE,
                 slot: p.inx.0,
                 generation: p.generation.0,
             },
             Err(refusal) => InsertResult {
                 answer: Answer::from(refusal),
-                slot: 0,
-                generation: 0,
+                ..InsertResult::default()
             },
         }
     }
 }
 
 // The check of the arena, and then the insertion.
-#[tactic(auto, using(answers::proofs::Exports::replies_refused, answers::proofs::Exports::replies_passed), unfolding(definitions::specs::Calls::accepted))]
+#[tactic(auto, using(answers::proofs::Exports::replies_refused, answers::proofs::Exports::replies_passed, well_formed::proofs::WellFormed::well_formed_if_passes), unfolding(definitions::specs::Calls::accepted))]
 fn insert(arena: &mut ArenaMut<'_>, kind: u32, p: Ptr, q: Ptr, x: u32) -> Result<Ptr, Refusal>
     ensures lent { SameBuffers arena.old arena.new }
-    ensures replied { inserted_reply result (held_in arena.new) []
+    ensures replied { result_reply pointer_words 2 result (held_in arena.new) []
         ≡ reply_to capacity_limit largest_generation (Insert kind (pointer_of p) (pointer_of q) x) (held_in arena.old) [] }
 {
     check(arena.lent())?;

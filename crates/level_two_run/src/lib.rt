@@ -5,7 +5,7 @@ ghost use Rattle.std.specs.Prelude.{◌≡◌, []};
 ghost use Rattle.definitions.specs.Arena.{capacity_limit, largest_generation};
 ghost use Rattle.definitions.specs.Calls.{Run, reply_to};
 ghost use Rattle.lent.specs.Arenas.{held_in, SameBuffers};
-ghost use Rattle.chain_run.specs.Ran.{ran_reply};
+ghost use Rattle.refusals.specs.Refusal.{no_words, result_reply};
 ghost use Rattle.answers.specs.Answered.{Answered};
 
 use answers::Answer;
@@ -21,7 +21,7 @@ fn checked_run(
     answers: &mut [u32],
 ) -> Result<(), Refusal>
     ensures lent { SameBuffers arena.old arena.new }
-    ensures replied { ran_reply result (held_in arena.new) answers.new
+    ensures replied { result_reply no_words 0 result (held_in arena.new) answers.new
         ≡ reply_to capacity_limit largest_generation (Run commands.now) (held_in arena.old) answers.old }
 {
     check(arena.lent())?;

@@ -50,6 +50,7 @@ pub enum InvalidationResult {
 
 impl InvalidationResult {
     // The number of the answer (REFERENCE, Numbers).
+    #[tactic(auto, unfolding(crate::specs::Links::removal_reply))]
     pub fn number(self) -> u32
         ensures { (a : Arena) (l : List ℕ) → result ≡ (removal_reply self a l).number }
     {

@@ -1,7 +1,7 @@
 -- The numbers of the refusals, and what a refused call replies (REFERENCE, Numbers and Replies).
-use Rattle.std.specs.Prelude.{ℕ, List, replicate, Result, Ok, Err}
+use Rattle.std.specs.Prelude.{ℕ, List, [], replicate, Result, Ok, Err}
 use Rattle.definitions.specs.Arena.{Arena}
-use Rattle.definitions.specs.Reply.{Reply}
+use Rattle.definitions.specs.Reply.{Reply, reply}
 use Rattle.refusals.specs.declared.Side.{Side}
 use Rattle.refusals.specs.declared.Side.TheVariants.{Prev, Next}
 use Rattle.refusals.specs.declared.Refusal.{Refusal}
@@ -51,3 +51,12 @@ refusal_side _ = 0
 -- what a refused call replies: the number, the slot and the side, so many further fields, all 0; the arena and l, what was handed in, are as they were
 abbrev pub refused : Refusal → ℕ → Arena → List ℕ → Reply
 refused r fields a l = record { number = refusal_number r; broken = refusal_slot r; side = refusal_side r; fields = replicate fields 0; arena = a; back = l }
+
+-- the further fields of a call that answers none
+abbrev pub no_words : {A : Type 0} → A → List ℕ
+no_words x = []
+
+-- what a call replies that gave r: 0 with the words of what it gave, or the refusal with so many further fields; a is the arena left, l what is handed back
+abbrev pub result_reply : {A : Type 0} → (A → List ℕ) → ℕ → Result A Refusal → Arena → List ℕ → Reply
+result_reply words fields (Ok x) a l = reply 0 (words x) a l
+result_reply words fields (Err r) a l = refused r fields a l

@@ -1,1 +1,3 @@
+pub mod Calls
+pub mod Lending
 pub mod Owned

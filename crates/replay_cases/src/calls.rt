@@ -1,5 +1,6 @@
 // The calls that are replayed, by the codes of their cases.
-ghost use Rattle.std.specs.Prelude.{◌<◌, ◌≤◌, ◌↔◌, IsOk};
+ghost use Rattle.std.specs.Prelude.{◌≡◌, ◌<◌, ◌≤◌, ◌↔◌, IsOk, IfOk};
+ghost use Rattle.replay_cases.specs.Calls.{code_of};
 
 // A call that is replayed.
 #[derive(Clone, Copy)]
@@ -36,8 +37,8 @@ pub struct UnknownCode;
 impl TryFrom<u32> for Call {
     type Error = UnknownCode;
 
-    // The codes are 1 to 23.
-    ghost try_from_gives = { λ code r. IsOk r ↔ ((0 < code) × (code ≤ 23)) };
+    // The codes are 1 to 23, and the call of a code is the one that has it.
+    ghost try_from_gives = { λ code r. (IsOk r ↔ ((0 < code) × (code ≤ 23))) × IfOk r (λ call. code_of call ≡ code) };
 
     fn try_from(code: u32) -> Result<Call, UnknownCode> {
         match code {

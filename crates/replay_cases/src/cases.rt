@@ -1,53 +1,22 @@
 // A case: its call, the arena, the arguments and the lent slice, as its line has them.
 ghost use Rattle.std.specs.Prelude.{◌≡◌, ◌+◌, ◌∷◌, ◌++◌, IfOk, slice_index_or};
+ghost use Rattle.std.specs.Borrow.{sem};
 ghost use Rattle.definitions.specs.Read.{pointer};
 ghost use Rattle.lent.specs.Arenas.{lent_of, held_in, links_of, header_of};
 ghost use Rattle.ptr.specs.Pointers.{pointer_of};
+ghost use Rattle.replay_cases.specs.Lending.{LendsHeader};
 ghost use Rattle.replay_cases.specs.Owned.{owned_in};
 
 use crate::calls::Call;
 use crate::replies::Reply;
+use crate::words::{Words, line_words};
 use answers::Answer;
 use lent::{ArenaMut, HeaderMut, LentArena, LinksMut};
 use ptr::Ptr;
 use std::alloc::{AllocError, Global};
-use std::iter::Take;
-use std::str::Split;
-
-// How many words of a line are read at most.
-const LINE_WORDS: usize = 192;
-
-// How many words a column, the arguments or the lent slice have at most.
-const PART_WORDS: u32 = 64;
 
 // How many words a header has.
 const HEADER_WORDS: usize = 4;
-
-// The words of a line that are not read yet.
-#[derive(Drop)]
-struct Words<'a> {
-    rest: Take<Split<'a, char>>,
-}
-
-impl Words<'_> {
-    // The next word, 0 behind the last. What is no number of 32 bits counts as 0.
-    fn word(&mut self) -> u32 {
-        self.rest
-            .next()
-            .and_then(|word| word.parse().ok())
-            .unwrap_or(0)
-    }
-
-    // The next word as a number of words.
-    fn count(&mut self) -> usize {
-        self.word().min(PART_WORDS) as usize
-    }
-
-    // The next n words.
-    fn part(&mut self, alloc: Global, n: usize) -> Result<Vec<u32>, AllocError> {
-        (0..n).map(|_| self.word()).collect(alloc)
-    }
-}
 
 // The columns and the header of a case.
 #[derive(Drop)]
@@ -99,9 +68,10 @@ impl OwnedArena {
         }
     }
 
-    // This arena, with its header lent to be written.
+    // This arena, with its header lent to be written. What is written there is in this arena afterwards.
     pub fn header_mut(&mut self) -> HeaderMut<'_>
-        ensures { header_of result ≡ owned_in self.old }
+        ensures lent { header_of result ≡ owned_in self.old }
+        ensures* writes_back { sem 𝓛 (LendsHeader self.entry result) }
     {
         HeaderMut {
             prev: &self.prev,
@@ -111,21 +81,9 @@ impl OwnedArena {
             header: &mut self.header,
         }
     }
-
-    // Takes the last word of what a shape names.
-    fn cut(&mut self, shape: u32) {
-        match shape {
-            1 => self.prev.pop(),
-            2 => self.next.pop(),
-            3 => self.generation.pop(),
-            4 => self.payload.pop(),
-            5 => self.header.pop(),
-            _ => None,
-        };
-    }
 }
 
-// The argument words of a case.
+// The argument words of a case, with all that stands behind them in its line.
 #[derive(Drop)]
 pub struct Arguments {
     pub words: Vec<u32>,
@@ -153,47 +111,70 @@ pub struct Case {
     pub call: Option<Call>,
     pub arena: OwnedArena,
     pub arguments: Arguments,
+    // The argument words as a run's commands, as many as their number says.
+    pub commands: Vec<u32>,
     pub lent: Vec<u32>,
     alloc: Global,
 }
 
 impl Case {
     // The case of a line, if its code is not 0.
-    pub(crate) fn parse(alloc: Global, line: &str) -> Result<Option<Case>, AllocError> {
-        let mut words = Words {
-            rest: line.split(' ').take(LINE_WORDS),
-        };
+    pub(crate) fn parse(alloc: Global, line: &[u8]) -> Result<Option<Case>, AllocError> {
+        let line = line_words(alloc, line)?;
+        let mut words = Words::new(line.as_slice());
         let code = words.word();
         if code == 0 {
             return Ok(None);
         }
         let slots = words.count();
         let shape = words.word();
-        let mut arena = OwnedArena {
+        let arena = OwnedArena {
             prev: words.part(alloc, slots)?,
             next: words.part(alloc, slots)?,
             generation: words.part(alloc, slots)?,
             payload: words.part(alloc, slots)?,
             header: words.part(alloc, HEADER_WORDS)?,
         };
-        arena.cut(shape);
         let argument_words = words.count();
         let arguments = Arguments {
-            words: words.part(alloc, argument_words)?,
+            words: words.left(alloc)?,
         };
+        let commands = words.part(alloc, argument_words)?;
         let lent_words = words.count();
-        Ok(Some(Case {
+        let mut case = Case {
             call: Call::try_from(code).ok(),
             arena,
             arguments,
+            commands,
             lent: words.part(alloc, lent_words)?,
             alloc,
-        }))
+        };
+        case.cut(shape);
+        Ok(Some(case))
     }
 
-    // The reply of a call on the case's arena: its answer and its further fields, and what it left.
-    pub fn reply(&self, answer: Answer, fields: &[u32]) -> Result<Reply, AllocError>
-        ensures { IfOk result (λ r. r.words.items ≡ answer.number ∷ answer.broken ∷ answer.side ∷ (fields.now ++ (self.now.lent.items ++ (self.now.arena.prev.items
+    // Takes the last word of the part that a shape names.
+    fn cut(&mut self, shape: u32) {
+        match shape {
+            1 => self.arena.prev.pop(),
+            2 => self.arena.next.pop(),
+            3 => self.arena.generation.pop(),
+            4 => self.arena.payload.pop(),
+            5 => self.arena.header.pop(),
+            6 => self.commands.pop(),
+            7 => self.lent.pop(),
+            _ => None,
+        };
+    }
+
+    // The line of a call: its answer, its further fields, the words that it was lent beside the arena, and the arena as it left it.
+    fn line<'a>(
+        &'a self,
+        answer: Answer,
+        fields: &'a [u32],
+        lent: &'a [u32],
+    ) -> Result<Reply, AllocError>
+        ensures { IfOk result (λ r. r.words.items ≡ answer.number ∷ answer.broken ∷ answer.side ∷ (fields.now ++ (lent.now ++ (self.now.arena.prev.items
             ++ (self.now.arena.next.items ++ (self.now.arena.generation.items ++ (self.now.arena.payload.items ++ self.now.arena.header.items))))))) }
     {
         let head = [answer.number, answer.broken, answer.side];
@@ -201,7 +182,7 @@ impl Case {
         let words = [
             head.as_slice(),
             fields,
-            self.lent.as_slice(),
+            lent,
             arena.prev,
             arena.next,
             arena.generation,
@@ -210,6 +191,22 @@ impl Case {
         ]
         .concat(self.alloc)?;
         Ok(Reply { words })
+    }
+
+    // The reply of a call that takes the arena alone.
+    pub fn reply(&self, answer: Answer, fields: &[u32]) -> Result<Reply, AllocError>
+        ensures { IfOk result (λ r. r.words.items ≡ answer.number ∷ answer.broken ∷ answer.side ∷ (fields.now ++ (self.now.arena.prev.items
+            ++ (self.now.arena.next.items ++ (self.now.arena.generation.items ++ (self.now.arena.payload.items ++ self.now.arena.header.items)))))) }
+    {
+        self.line(answer, fields, &[])
+    }
+
+    // The reply of a call that takes the lent slice too.
+    pub fn reply_lent(&self, answer: Answer, fields: &[u32]) -> Result<Reply, AllocError>
+        ensures { IfOk result (λ r. r.words.items ≡ answer.number ∷ answer.broken ∷ answer.side ∷ (fields.now ++ (self.now.lent.items ++ (self.now.arena.prev.items
+            ++ (self.now.arena.next.items ++ (self.now.arena.generation.items ++ (self.now.arena.payload.items ++ self.now.arena.header.items))))))) }
+    {
+        self.line(answer, fields, self.lent.as_slice())
     }
 
     // The reply of a call that takes no arena.

@@ -4,15 +4,15 @@
 
 use level_one_due::{chain_arena_due_count, chain_arena_due_events};
 use level_one_lines::{chain_arena_line_dots, chain_arena_line_of_dot};
-use replay_cases::{Call, Case, NO_CALL, Reply, replay_all};
+use replay_cases::{Call, Case, Reply, replay_all};
 use std::alloc::AllocError;
 use std::io;
 
 // Makes the call of a case. What is due is reported in the lent slice.
-fn replay(case: &mut Case) -> Result<Reply, AllocError> {
+fn replay(case: &mut Case) -> Result<Option<Reply>, AllocError> {
     let arena = case.arena.lent();
     let a = &case.arguments;
-    match &case.call {
+    let reply = match &case.call {
         Some(Call::LineOfDot) => {
             let r = chain_arena_line_of_dot(a.word(0));
             case.reply_alone(&[r.number, r.line])
@@ -28,10 +28,11 @@ fn replay(case: &mut Case) -> Result<Reply, AllocError> {
         Some(Call::DueEvents) => {
             let report = case.lent.as_mut_slice();
             let r = chain_arena_due_events(arena, a.pointer(0), a.word(2), a.word(3), report);
-            case.reply(r.answer, &[r.count])
+            case.reply_lent(r.answer, &[r.count])
         }
-        _ => case.reply(NO_CALL, &[]),
-    }
+        _ => return Ok(None),
+    };
+    reply.map(Some)
 }
 
 // Replays the cases of standard input.

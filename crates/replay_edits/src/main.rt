@@ -13,7 +13,7 @@ use std::alloc::AllocError;
 use std::io;
 
 // Makes the call of a case.
-fn replay(case: &mut Case) -> Result<Reply, AllocError> {
+fn replay(case: &mut Case) -> Result<Option<Reply>, AllocError> {
     let a = &case.arguments;
     let (p, q) = (a.pointer(0), a.pointer(2));
     let arena = &mut case.arena;
@@ -29,7 +29,7 @@ fn replay(case: &mut Case) -> Result<Reply, AllocError> {
         }
         _ => NO_CALL,
     };
-    case.reply(answer, &[])
+    case.reply(answer, &[]).map(Some)
 }
 
 // Replays the cases of standard input.

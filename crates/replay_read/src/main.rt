@@ -13,10 +13,10 @@ use std::alloc::AllocError;
 use std::io;
 
 // Makes the call of a case.
-fn replay(case: &mut Case) -> Result<Reply, AllocError> {
+fn replay(case: &mut Case) -> Result<Option<Reply>, AllocError> {
     let arena = case.arena.lent();
     let a = &case.arguments;
-    match &case.call {
+    let reply = match &case.call {
         Some(Call::Check) => {
             let answer = chain_arena_check(arena);
             case.reply(answer, &[])
@@ -67,7 +67,8 @@ fn replay(case: &mut Case) -> Result<Reply, AllocError> {
             )
         }
         _ => case.reply(NO_CALL, &[]),
-    }
+    };
+    reply.map(Some)
 }
 
 // Replays the cases of standard input.

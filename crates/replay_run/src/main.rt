@@ -2,20 +2,20 @@
 #![tactic(auto)]
 
 use level_two_run::chain_arena_run;
-use replay_cases::{Call, Case, NO_CALL, Reply, replay_all};
+use replay_cases::{Call, Case, Reply, replay_all};
 use std::alloc::AllocError;
 use std::io;
 
 // Makes the call of a case: runs the argument words as commands, with the lent slice for their answers.
-fn replay(case: &mut Case) -> Result<Reply, AllocError> {
+fn replay(case: &mut Case) -> Result<Option<Reply>, AllocError> {
     let arena = &mut case.arena.lent_mut();
     match &case.call {
         Some(Call::Run) => {
-            let commands = case.arguments.words.as_slice();
+            let commands = case.commands.as_slice();
             let answer = chain_arena_run(arena, commands, case.lent.as_mut_slice());
-            case.reply(answer, &[])
+            case.reply_lent(answer, &[]).map(Some)
         }
-        _ => case.reply(NO_CALL, &[]),
+        _ => Ok(None),
     }
 }
 

@@ -14,7 +14,7 @@ use small_layout::small_arena;
 
 // Whether there is a small arena of an index, and its stack length.
 #[repr(C)]
-#[derive(Clone, Copy)]
+#[derive(Clone, Copy, Default)]
 pub struct SmallArenaResult {
     pub number: u32,
     pub found: u32,
@@ -32,15 +32,10 @@ impl From<Result<Option<u32>, Refusal>> for SmallArenaResult {
                 found: 1,
                 length,
             },
-            Ok(None) => SmallArenaResult {
-                number: 0,
-                found: 0,
-                length: 0,
-            },
+            Ok(None) => SmallArenaResult::default(),
             Err(refusal) => SmallArenaResult {
                 number: refusal.number(),
-                found: 0,
-                length: 0,
+                ..SmallArenaResult::default()
             },
         }
     }

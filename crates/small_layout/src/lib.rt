@@ -14,7 +14,7 @@ use header::{CURRENT_GENERATION, LINK_COUNT, ROOT, STACK_LENGTH};
 use lent::ArenaMut;
 use ptr::Gen;
 use refusals::Refusal;
-use small_table::packed_arena;
+use small_table::get_packed_arena;
 
 // The word of a packed arena, or of its rows, that has this weight.
 #[tactic(auto, unfolding(all_small::proofs::Packed::digit))]
@@ -75,7 +75,7 @@ pub fn small_arena(arena: &mut ArenaMut<'_>, index: u32) -> Result<Option<u32>, 
     if is_misshapen(arena.lent()) {
         return Err(Refusal::Shape);
     }
-    let Some(packed) = packed_arena(index as usize) else {
+    let Some(packed) = get_packed_arena(index as usize) else {
         return Ok(None);
     };
     let n = word_of(packed, 1);

@@ -22,9 +22,21 @@ const TABLE: [u32; 90] = [
     53024955, 53041851,
 ];
 
+// The small arena of an index, packed.
+pub fn packed_arena(index: usize) -> u32
+    requires { index < 90 }
+    ensures { unpacked result ≡ entry small_arenas index }
+{
+    TABLE[index]
+}
+
 // The small arena of an index, packed; none where the index is past the last.
-pub fn packed_arena(index: usize) -> Option<u32>
+pub fn get_packed_arena(index: usize) -> Option<u32>
     ensures { MatchOption result (90 ≤ index) (λ packed. (index < 90) × (unpacked packed ≡ entry small_arenas index)) }
 {
-    TABLE.get(index).copied()
+    if index < TABLE.len() {
+        Some(packed_arena(index))
+    } else {
+        None
+    }
 }

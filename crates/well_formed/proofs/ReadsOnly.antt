@@ -45,17 +45,17 @@ module _ (gs hs : List ℕ) (n : ℕ) (generation : AgreeTo n gs hs) where
           | no l ↦ rw (lt-ltb n s (omega arith)) refl
         ]
 
-    same_counts : (m s : ℕ) → counts_of ns gs n m s ≡ counts_of ms hs n m s
+    pub same_counts : (m s : ℕ) → counts_of ns gs n m s ≡ counts_of ms hs n m s
     unfolding counts_of
     same_counts m s = rw (same_links, same_free, same_walk (n + 2) s 0) refl
 
     module _ (ps qs : List ℕ) (prev : (s : ℕ) → allocated gs n s ≡ true → at ps s ≡ at qs s) where
-      same_names_back : (bs cs : List ℕ) (x s : ℕ) → ((t : ℕ) → allocated gs n t ≡ true → at bs t ≡ at cs t) → names_back bs gs n x s ≡ names_back cs hs n x s
+      pub same_names_back : (bs cs : List ℕ) (x s : ℕ) → ((t : ℕ) → allocated gs n t ≡ true → at bs t ≡ at cs t) → names_back bs gs n x s ≡ names_back cs hs n x s
       unfolding names_back
       same_names_back bs cs x s agree =
           by_test (allocated gs n s) (λ e. rw (← same_allocated s, agree s e) refl) (λ e. rw (← same_allocated s, e) refl)
 
-      same_fine : (x : ℕ) → neighbours_fine ps ns gs n x ≡ neighbours_fine qs ms hs n x
+      pub same_fine : (x : ℕ) → neighbours_fine ps ns gs n x ≡ neighbours_fine qs ms hs n x
       unfolding neighbours_fine
       same_fine x =
           by_test (allocated gs n x)

@@ -1,11 +1,10 @@
-use Rattle.canonical_layout.proofs.Search.{search_goes_on, search_finds, search_ends}
+-- `canonical_layout::lowest_link` meets its contract: the first word after the first `from` is that of the lowest slot (Search). Assumes nothing.
+use Rattle.std.proofs.lemmas.List.{take_rest}
+use Rattle.canonical_layout.proofs.Search.{lowest_found, lowest_none}
 use Rattle.canonical_layout.proofs.lowest_link.Goals as goal
 
-pub returns-then-where_from-s-ne0-clause-lowest : goal.returns-then-where_from-s-ne0-clause-lowest
-returns-then-where_from-s-ne0-clause-lowest c = search_finds c.loop-s.invariant c.if-where_from-s-ne0.true
+pub returns-in-Some-clause-lowest : goal.returns-in-Some-clause-lowest
+returns-in-Some-clause-lowest c = lowest_found _ _ c.requires.0 (rw (take_rest c.args.where_from.now c.args.from) at c.in-Some.ensures.some)
 
-pub loop-s-preserved : goal.loop-s-preserved
-loop-s-preserved c = search_goes_on c.loop-s.invariant c.loop-s-test.true c.if-where_from-s-ne0.false
-
-pub returns-clause-lowest : goal.returns-clause-lowest
-returns-clause-lowest c = search_ends c.loop-s.invariant c.loop-s-test.false
+pub returns-in-None-clause-lowest : goal.returns-in-None-clause-lowest
+returns-in-None-clause-lowest c = lowest_none _ _ c.requires.0 (rw (take_rest c.args.where_from.now c.args.from) at c.in-None.ensures.none)

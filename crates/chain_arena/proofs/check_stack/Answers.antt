@@ -9,8 +9,8 @@ returns-in_err-counts c =
     let p = err_from_is_err_and c.from_residual.result c.from_residual.ensures.1 in
     rw (p.1, p.2) (refuses_counts _ c.args.arena.shaped _ _ _ c.stack_length-n.ensures c.link_count.ensures c.root.ensures _ c.in_err-counts.ensures)
 
-pub interlinks-requires-clause-stays_free : goal.interlinks-requires-clause-stays_free
-interlinks-requires-clause-stays_free c = stack_stays_free _ c.args.arena.shaped _ _ _ c.stack_length-n.ensures c.link_count.ensures c.root.ensures c.in_ok-counts.ensures
+pub interlinks-requires : goal.interlinks-requires
+interlinks-requires c = record { stays_free = λ t. stack_stays_free _ c.args.arena.shaped _ _ _ c.stack_length-n.ensures c.link_count.ensures c.root.ensures c.in_ok-counts.ensures }
 
 pub returns-in-Some : goal.returns-in-Some
 returns-in-Some c = refuses_broken _ c.args.arena.shaped _ _ _ c.stack_length-n.ensures c.link_count.ensures c.root.ensures c.in_ok-counts.ensures _ _ c.in-Some.ensures c.broken_side-side.ensures

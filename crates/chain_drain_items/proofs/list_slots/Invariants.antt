@@ -1,12 +1,12 @@
 -- `chain_drain_items::list_slots` meets its contract. The loop's invariant: the slots listed and those still ahead are all that were ahead, and the words
--- past the listed items are the old ones. The measure is the advances left. Assumes nothing.
-use Rattle.lent.specs.Arenas.{checked_of}
-use Rattle.chain_iterators.specs.Walk.{walk_of, OnChain}
+-- past the listed items are the old ones. The measure is how many slots are ahead. Assumes nothing.
+use Rattle.std.specs.Prelude.{length}
+use Rattle.chain_ahead.specs.Rest.{rest_of}
 use Rattle.chain_drain_items.proofs.Listing.{Listing}
 use Rattle.chain_drain_items.proofs.list_slots.Given as goal
 
 abbrev pub invariant-loop-p : goal.invariant-loop-p
-invariant-loop-p l = Listing (checked_of l.arena) (walk_of l.initial.walk) (walk_of l.walk) l.initial.report l.report l.items × OnChain (checked_of l.arena) l.walk.ptr.0
+invariant-loop-p l = Listing (rest_of l.initial.walk) (rest_of l.walk) l.initial.report l.report l.items
 
 abbrev pub decreases-loop-p : goal.decreases-loop-p
-decreases-loop-p l = l.walk.max_advances
+decreases-loop-p l = length (rest_of l.walk)

@@ -1,9 +1,7 @@
 -- `chain_edits::break_side` meets its contract. A neighbour of a link is in the stack, so its word can be written; which side it is on decides only which of the two
 -- slots is which. Assumes nothing.
 use borrow.Author.Rules.{rules}
-use Rattle.lent.specs.Arenas.{links_of}
-use Rattle.ptr.specs.Pointers.{pointer_of}
-use Rattle.chain_edits.proofs.Reading.{found_stale, found_fresh, next_read, prev_read, stands, stands_there}
+use Rattle.chain_edits.proofs.Reading.{found_stale, stands_there}
 use Rattle.chain_edits.proofs.Sides.{beside, side_stale, side_none, side_done, from_stands, to_stands}
 use Rattle.chain_edits.proofs.break_side.Goals as goal
 
@@ -18,16 +16,16 @@ slot_at-its_next-requires c = let at_p = stands_there c.lent-now.ensures _ c.req
 
 pub returns-then-neighbour-eq0-clause-edited : goal.returns-then-neighbour-eq0-clause-edited
 returns-then-neighbour-eq0-clause-edited c =
-    side_none (beside _ _ _ _ _ _ (found_fresh c.lent-now.ensures _ c.stale.ensures c.if-stale.false) (stands c.lent-now.ensures _ c.requires c.stale.ensures c.if-stale.false) (prev_read c.lent-now.ensures _ c.slot_at-its_prev.ensures) (next_read c.lent-now.ensures _ c.slot_at-its_next.ensures) (search rules)) c.if-neighbour-eq0.true
+    side_none (beside c.lent-now.ensures _ _ c.requires c.stale.ensures c.if-stale.false c.slot_at-its_prev.ensures c.slot_at-its_next.ensures (search rules)) c.if-neighbour-eq0.true
 
 pub set_at-requires : goal.set_at-requires
 set_at-requires c =
-    from_stands (beside (links_of c.args.arena.now) (pointer_of c.args.p) c.args.after _ _ _ (found_fresh c.lent-now.ensures _ c.stale.ensures c.if-stale.false) (stands c.lent-now.ensures _ c.requires c.stale.ensures c.if-stale.false) (prev_read c.lent-now.ensures _ c.slot_at-its_prev.ensures) (next_read c.lent-now.ensures _ c.slot_at-its_next.ensures) (search rules)) c.if-neighbour-eq0.false (search rules)
+    from_stands {after = c.args.after} (beside c.lent-now.ensures _ _ c.requires c.stale.ensures c.if-stale.false c.slot_at-its_prev.ensures c.slot_at-its_next.ensures (search rules)) c.if-neighbour-eq0.false (search rules)
 
 pub set_at-requires-2 : goal.set_at-requires-2
 set_at-requires-2 c =
-    to_stands (beside (links_of c.args.arena.now) (pointer_of c.args.p) c.args.after _ _ _ (found_fresh c.lent-now.ensures _ c.stale.ensures c.if-stale.false) (stands c.lent-now.ensures _ c.requires c.stale.ensures c.if-stale.false) (prev_read c.lent-now.ensures _ c.slot_at-its_prev.ensures) (next_read c.lent-now.ensures _ c.slot_at-its_next.ensures) (search rules)) c.if-neighbour-eq0.false (search rules)
+    to_stands {after = c.args.after} (beside c.lent-now.ensures _ _ c.requires c.stale.ensures c.if-stale.false c.slot_at-its_prev.ensures c.slot_at-its_next.ensures (search rules)) c.if-neighbour-eq0.false (search rules)
 
 pub returns-clause-edited : goal.returns-clause-edited
 returns-clause-edited c =
-    side_done (beside (links_of c.args.arena.now) (pointer_of c.args.p) c.args.after _ _ _ (found_fresh c.lent-now.ensures _ c.stale.ensures c.if-stale.false) (stands c.lent-now.ensures _ c.requires c.stale.ensures c.if-stale.false) (prev_read c.lent-now.ensures _ c.slot_at-its_prev.ensures) (next_read c.lent-now.ensures _ c.slot_at-its_next.ensures) (search rules)) c.if-neighbour-eq0.false (search rules) (search rules) c.set_at-2.ensures c.set_at.ensures
+    side_done (beside c.lent-now.ensures _ _ c.requires c.stale.ensures c.if-stale.false c.slot_at-its_prev.ensures c.slot_at-its_next.ensures (search rules)) c.if-neighbour-eq0.false (search rules) (search rules) c.set_at-2.ensures c.set_at.ensures

@@ -6,4 +6,4 @@ use Rattle.chain_run.proofs.Going.{Going}
 use Rattle.chain_run.proofs.apply_all.Given as goal
 
 abbrev pub invariant-loop-i : goal.invariant-loop-i
-invariant-loop-i l = Going largest_generation (held_in l.initial.arena) l.commands l.initial.answers l.i (held_in l.arena) l.answers × SameBuffers l.initial.arena l.arena
+invariant-loop-i l = Going largest_generation (held_in l.initial.arena) l.commands l.initial.answer-items l.i (held_in l.arena) l.answer-items × SameBuffers l.initial.arena l.arena

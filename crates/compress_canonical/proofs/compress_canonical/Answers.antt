@@ -14,13 +14,9 @@ pub renew_generation-renewed-requires : goal.renew_generation-renewed-requires
 renew_generation-renewed-requires c = rw c.lay_out.ensures.others.1 (shaped _ _ c.requires).header
 
 pub shrink-requires : goal.shrink-requires
-shrink-requires c =
-    let out = c.lay_out.ensures in
-    let renews = c.renew_generation-renewed.ensures in
-    shrinkable _ _ c.requires out.laid out.others renews.renewed renews.others
+shrink-requires c = let out = c.lay_out.ensures in shrinkable _ _ _ c.requires out.laid out.others c.renew_generation-renewed.ensures
 
 pub returns-clause-compressed : goal.returns-clause-compressed
 returns-clause-compressed c =
     let out = c.lay_out.ensures in
-    let renews = c.renew_generation-renewed.ensures in
-    compressed _ _ c.requires out.laid out.others renews.renewed renews.others c.if-where_from-arena.false c.shrink.ensures.shrunk
+    compressed _ _ _ c.requires out.laid out.others c.renew_generation-renewed.ensures c.if-where_from-arena.false c.shrink.ensures.shrunk

@@ -1,30 +1,16 @@
--- `compress_with::compress_columns` meets its contract: numbering, moving down, stamping and popping, one after the other, are the definition's
--- `relocate` (Relocated). Assumes nothing.
-use mathlib.Core.List.{[]}
+-- `compress_with::compress_columns` meets its contract: the header that it makes is one of those that its columns may have (Relocated). Assumes nothing.
+use borrow.Author.Rules.{rules}
+use mathlib.Core.List.{[], ◌∷◌}
+use mathlib.Core.Path.{refl}
 use native.Mathlib.Omega.{arith}
-use Rattle.compress_with.proofs.Relocated.{movable, shrinkable, relocated}
+use Rattle.compress_with.proofs.Relocated.{few, any_header, any_report}
 use Rattle.compress_with.proofs.compress_columns.Goals as goal
 
-pub number_links-requires : goal.number_links-requires
-number_links-requires c = let can = c.requires.compressible in (_, can.small, can.generation_within, can.counted, can.room)
-
-pub move_down-requires-clause-movable : goal.move_down-requires-clause-movable
-move_down-requires-clause-movable c =
-    let can = c.requires.compressible in
-    let says = c.number_links.ensures _ can.generation_within can.counted c.args.arena.now.prev.now c.args.arena.now.next.now c.args.arena.now.payload.now c.args.arena.now.header.now in
-    rw says.named (movable can _ _ _ says.reported (omega (arith, c.number_links.auto)))
-
-pub shrink-requires : goal.shrink-requires
-shrink-requires c =
-    let can = c.requires.compressible in
-    let says = c.number_links.ensures _ can.generation_within can.counted [] [] [] [] in
-    shrinkable can says.named c.move_down.ensures.moved c.requires.header
+pub overflow_cast-header-2 : goal.overflow_cast-header-2
+overflow_cast-header-2 c = omega (arith, few c.requires, c.requires.small)
 
 pub returns-clause-moved : goal.returns-clause-moved
-returns-clause-moved c =
-    let can = c.requires.compressible in
-    let says = c.number_links.ensures _ can.generation_within can.counted [] [] [] [] in
-    relocated can says.named c.move_down.ensures.moved c.shrink.ensures.shrunk
+returns-clause-moved c h e = any_header c.requires c.args.new.0 {k' = c.compress_links.new.arena.header.now} (c.args.n ∷ c.args.links ∷ 0 ∷ c.args.new.0 ∷ []) h (search rules) refl e
 
 pub returns-clause-reported : goal.returns-clause-reported
-returns-clause-reported c = let can = c.requires.compressible in (c.number_links.ensures _ can.generation_within can.counted _ _ _ _).reported
+returns-clause-reported c h = any_report c.requires c.args.new.0 (c.args.n ∷ c.args.links ∷ 0 ∷ c.args.new.0 ∷ []) h c.args.report.now c.compress_links.ensures.reported
