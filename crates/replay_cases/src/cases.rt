@@ -1,15 +1,15 @@
 // A case: its call, the arena, the arguments and the lent slice, as its line has them.
-ghost use Rattle.std.specs.Prelude.{◌≡◌, ◌+◌, ◌∷◌, ◌++◌, IfOk, slice_index_or};
+ghost use Rattle.std.specs.Prelude.{◌≡◌, ◌+◌, ◌∷◌, ◌++◌, ⊤, IfOk, MatchOption, slice_index_or};
 ghost use Rattle.std.specs.Borrow.{sem};
 ghost use Rattle.definitions.specs.Read.{pointer};
 ghost use Rattle.lent.specs.Arenas.{lent_of, held_in, links_of, header_of};
 ghost use Rattle.ptr.specs.Pointers.{pointer_of};
 ghost use Rattle.replay_cases.specs.Lending.{LendsHeader};
-ghost use Rattle.replay_cases.specs.Owned.{owned_in};
+ghost use Rattle.replay_cases.specs.Owned.{owned_in, Fits};
 
 use crate::calls::Call;
 use crate::replies::Reply;
-use crate::words::{Words, line_words};
+use crate::words::Words;
 use answers::Answer;
 use lent::{ArenaMut, HeaderMut, LentArena, LinksMut};
 use ptr::Ptr;
@@ -83,23 +83,26 @@ impl OwnedArena {
     }
 }
 
-// The argument words of a case, with all that stands behind them in its line.
-#[derive(Drop)]
+// How many argument words a call has at most: those of an insertion.
+const ARGUMENT_WORDS: usize = 6;
+
+// The argument words of a case, with what stands behind them in its line where there are fewer.
+#[derive(Clone, Copy)]
 pub struct Arguments {
-    pub words: Vec<u32>,
+    pub words: [u32; ARGUMENT_WORDS],
 }
 
 impl Arguments {
     // The word at a place, 0 behind the last.
     pub fn word(&self, i: usize) -> u32
-        ensures { result ≡ slice_index_or self.now.words.items i 0 }
+        ensures { result ≡ slice_index_or self.now.words i 0 }
     {
         self.words.get(i).copied().unwrap_or(0)
     }
 
     // The pointer whose slot is the word at a place and whose generation is the one behind it.
     pub fn pointer(&self, i: usize) -> Ptr
-        ensures { pointer_of result ≡ pointer (slice_index_or self.now.words.items i 0) (slice_index_or self.now.words.items (i + 1) 0) }
+        ensures { pointer_of result ≡ pointer (slice_index_or self.now.words i 0) (slice_index_or self.now.words (i + 1) 0) }
     {
         Ptr::new(self.word(i), self.word(i.saturating_add(1)))
     }
@@ -118,10 +121,11 @@ pub struct Case {
 }
 
 impl Case {
-    // The case of a line, if its code is not 0.
-    pub(crate) fn parse(alloc: Global, line: &[u8]) -> Result<Option<Case>, AllocError> {
-        let line = line_words(alloc, line)?;
-        let mut words = Words::new(line.as_slice());
+    // The case of a line with these words, if its code is not 0.
+    pub(crate) fn parse(alloc: Global, words: &[u32]) -> Result<Option<Case>, AllocError>
+        ensures { IfOk result (λ found. MatchOption found ⊤ Fits) }
+    {
+        let mut words = Words::new(words);
         let code = words.word();
         if code == 0 {
             return Ok(None);
@@ -137,7 +141,7 @@ impl Case {
         };
         let argument_words = words.count();
         let arguments = Arguments {
-            words: words.left(alloc)?,
+            words: words.ahead(),
         };
         let commands = words.part(alloc, argument_words)?;
         let lent_words = words.count();
@@ -154,7 +158,10 @@ impl Case {
     }
 
     // Takes the last word of the part that a shape names.
-    fn cut(&mut self, shape: u32) {
+    fn cut(&mut self, shape: u32)
+        requires { Fits self.old }
+        ensures { Fits self.new }
+    {
         match shape {
             1 => self.arena.prev.pop(),
             2 => self.arena.next.pop(),

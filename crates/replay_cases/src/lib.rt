@@ -25,12 +25,13 @@ mod cases;
 mod replies;
 mod words;
 
-pub use calls::Call;
+use crate::words::read_words;
+pub use calls::{Call, UnknownCode};
 pub use cases::{Arguments, Case, OwnedArena};
 pub use replies::{NO_CALL, Reply};
 use std::alloc::{AllocError, Global};
 use std::io;
-use std::io::{BufRead, BufReader, LineWriter, Read, Write};
+use std::io::{BufRead, BufReader, BufWriter, Read, Write};
 
 // How many cases a program replays at most.
 const MOST_CASES: usize = 65536;
@@ -38,23 +39,30 @@ const MOST_CASES: usize = 65536;
 // How many bytes a case's line has at most, its end among them.
 const LONGEST_LINE: u64 = 4096;
 
-// The case of the next line. There is none if the line is too long, has no end or has the code 0.
-fn next_case<R: BufRead>(alloc: Global, input: &mut R) -> io::Result<Option<Case>> {
-    let mut line = Vec::new(alloc);
-    input
-        .by_ref()
-        .take(LONGEST_LINE)
-        .read_until(b'\n', &mut line)?;
-    match line.as_slice().strip_suffix(b"\n") {
-        Some(line) => Ok(Case::parse(alloc, line)?),
-        None => Ok(None),
-    }
+// The case of the next line. There is none if the line is too long, has no end or has the code 0. The line and its words are read into the vectors lent, so that
+// a line needs no memory of its own.
+fn next_case<R: BufRead>(
+    alloc: Global,
+    input: &mut R,
+    line: &mut Vec<u8>,
+    words: &mut Vec<u32>,
+) -> io::Result<Option<Case>> {
+    line.clear();
+    input.by_ref().take(LONGEST_LINE).read_until(b'\n', line)?;
+    let Some(line) = line.as_slice().strip_suffix(b"\n") else {
+        return Ok(None);
+    };
+    read_words(words, line)?;
+    Ok(Case::parse(alloc, words.as_slice())?)
 }
 
-// Writes a reply and ends its line. Where there is none, no line is ended, and the next reply stands right behind.
+// Writes a reply, ends its line and hands on what was written. Where there is none, no line is ended, and the next reply stands right behind.
 fn write_reply<W: Write>(out: &mut W, reply: Option<Reply>) -> io::Result<()> {
     match reply {
-        Some(reply) => writeln!(out, "{reply}"),
+        Some(reply) => {
+            writeln!(out, "{reply}")?;
+            out.flush()
+        }
         None => write!(
             out,
             "{} {} {}",
@@ -73,9 +81,11 @@ where
 {
     let alloc = rt.alloc();
     let mut input = BufReader::new(alloc, rt.reader())?;
-    let mut out = LineWriter::new(alloc, io::writer(rt))?;
+    let mut out = BufWriter::new(alloc, io::writer(rt))?;
+    let mut line = Vec::new(alloc);
+    let mut words = Vec::new(alloc);
     for _ in 0..MOST_CASES {
-        let Some(mut case) = next_case(alloc, &mut input)? else {
+        let Some(mut case) = next_case(alloc, &mut input, &mut line, &mut words)? else {
             break;
         };
         write_reply(&mut out, replay(&mut case)?)?;

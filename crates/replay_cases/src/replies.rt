@@ -17,11 +17,12 @@ pub struct Reply {
 
 impl fmt::Display for Reply {
     fn fmt<W: fmt::Write>(&self, f: &mut fmt::Formatter<W>) -> fmt::Result {
-        for (i, word) in self.words.iter().enumerate() {
-            if i > 0 {
-                write!(f, " ")?;
-            }
+        let mut words = self.words.iter();
+        if let Some(word) = words.next() {
             write!(f, "{word}")?;
+        }
+        for word in words {
+            write!(f, " {word}")?;
         }
         Ok(())
     }
