@@ -1,14 +1,11 @@
 -- One link put in its place: the code's exchange, or nothing where it is there already, is the definition's step. Assumes nothing.
 use Prim.Native.Nat.{ℕ, zero, suc, ◌+◌, ◌≤◌, ◌<◌}
-use mathlib.Core.Path.{◌≡◌, refl, sym, ap, ◌∙◌}
-use mathlib.Core.Bool.{Bool, false, not}
+use mathlib.Core.Path.{◌≡◌, refl, sym, ◌∙◌}
 use mathlib.Core.List.{List, [], ◌∷◌, map}
 use native.Mathlib.Omega.{arith}
 use native.Mathlib.Numerals.{add-one}
 use native.Mathlib.Decide.{ℕ_discrete}
-use lib.Dec.{eqb}
-use lib.ListN.{length, get_or, set, take, take-append-drop}
-use borrow.Author.Tests.{eqb-true, not-false}
+use lib.ListN.{length, get_or, take, take-append-drop}
 use Rattle.std.proofs.lemmas.List.{set-get_or}
 use Rattle.definitions.specs.Columns.{at, put}
 use Rattle.definitions.specs.Arena.{Arena, capacity_limit, stack_length}
@@ -117,8 +114,8 @@ module _ {a : Arena} {l : Laying} {first t : ℕ} {c : Lent} {laid : ℕ} (chain
   exchanged_laid {left} x =
       link_laid left (exchange_holds b l.from c sound chain.held (suc laid) t (omega arith) place_left target left (rw (add-one laid) at x))
 
-  -- the link is there already, as the code's test says
-  pub stays_laid : {moves : Bool} → moves ≡ not (eqb (laid + 1) t) → moves ≡ false → LinkLaid l t c (get_or c.next laid 0)
-  stays_laid is e =
-      let same : t ≡ suc laid = sym (eqb-true _ _ (not-false _ (sym is ∙ e))) ∙ add-one laid in
+  -- the link is there already
+  pub stays_laid : laid + 1 ≡ t → LinkLaid l t c (get_or c.next laid 0)
+  stays_laid e =
+      let same : t ≡ suc laid = sym e ∙ add-one laid in
       link_laid c (rw (same, slots_itself (suc laid) b, words_itself (suc laid) l.from) chain.held)

@@ -6,6 +6,9 @@ ghost use Rattle.statements.specs.SmallArenas.{entry};
 ghost use Rattle.all_small.specs.SmallArenas.{small_arenas};
 ghost use Rattle.all_small.proofs.Packed.{unpacked};
 
+// How many small arenas there are.
+pub const SMALL_ARENAS: u32 = 90;
+
 // All small arenas in their order. The digits of an entry to the base 4, from the lowest on, are its stack length, link count and root, and then, slot by
 // slot, prev, next, generation and payload.
 const TABLE: [u32; 90] = [
