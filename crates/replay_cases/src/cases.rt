@@ -1,5 +1,5 @@
 // A case: its call, the arena, the arguments and the lent slice, as its line has them.
-ghost use Rattle.std.specs.Prelude.{◌≡◌, ◌+◌, ◌∷◌, ◌++◌, ⊤, IfOk, MatchOption, slice_index_or};
+ghost use Rattle.std.specs.Prelude.{◌≡◌, ◌+◌, ◌∷◌, ◌++◌, ◌≢◌, IfOk, MatchOption, slice_index_or};
 ghost use Rattle.std.specs.Borrow.{sem};
 ghost use Rattle.definitions.specs.Read.{pointer};
 ghost use Rattle.lent.specs.Arenas.{lent_of, held_in, links_of, header_of};
@@ -123,7 +123,7 @@ pub struct Case {
 impl Case {
     // The case of a line with these words, if its code is not 0.
     pub(crate) fn parse(alloc: Global, words: &[u32]) -> Result<Option<Case>, AllocError>
-        ensures { IfOk result (λ found. MatchOption found ⊤ Fits) }
+        ensures { IfOk result (λ found. MatchOption found (slice_index_or words.now 0 0 ≡ 0) (λ c. (slice_index_or words.now 0 0 ≢ 0) × Fits c)) }
     {
         let mut words = Words::new(words);
         let code = words.word();

@@ -58,7 +58,10 @@ impl<'a> Words<'a> {
 
     // The next word as a number of words.
     pub fn count(&mut self) -> usize
-        ensures { result ≤ 64 }
+        ensures bounded { result ≤ 64 }
+        ensures read { slice_index_or (words_left self.old) 0 0 ≤ 64 → result ≡ slice_index_or (words_left self.old) 0 0 }
+        ensures most { 64 ≤ slice_index_or (words_left self.old) 0 0 → result ≡ 64 }
+        ensures left { words_left self.new ≡ drop 1 (words_left self.old) }
     {
         self.word().min(PART_WORDS) as usize
     }
